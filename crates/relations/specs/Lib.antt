@@ -1,0 +1,4 @@
+pub mod Sets
+pub mod Growth
+pub mod Trees
+pub mod Theorems
