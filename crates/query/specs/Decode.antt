@@ -1,0 +1,123 @@
+-- The query file, section by section in reading order: document 01's "The query" and refusals 1 to 5.
+use Prim.Native.Nat.{ℕ, _+_, _-_, _*_, _^_}
+use mathlib.Core.Bool.{Bool, true, false}
+use mathlib.Core.List.{List, []}
+use lib.ListN.{length, set, replicate}
+use lib.Dec.{eqb}
+use Rattle.relations.specs.declared.Joins.{Joins}
+use Rattle.relations.specs.Trees.{isSubquery, subqueries, reaches}
+use Rattle.query.specs.declared.Sites.{Sites}
+use Rattle.query.specs.declared.Relations.{Relations}
+use Rattle.query.specs.declared.Lines.{Lines}
+use Rattle.query.specs.declared.Query.{Query}
+use Rattle.query.specs.Choice.{pick}
+use Rattle.query.specs.Fields.{Read, refused, value, andThen, field, countField, byteBelow, amountUpTo, items}
+
+-- The flag, fixed amount and rate of a site or a line.
+pub record Terms : Type 0 where
+  pub flag : ℕ
+  pub fixed : ℕ
+  pub rate : ℕ
+
+-- Fixed amounts are up to 1,000,000, rates up to 1,000, sizes up to 1,000,000,000.
+unfoldable pub terms : List ℕ → Read Terms
+terms l =
+    andThen (byteBelow 2 l)
+    (λ flag l. andThen (amountUpTo 1_000_000 l) (λ fixed l. andThen (amountUpTo 1_000 l) (λ rate l. value (record { flag = flag; fixed = fixed; rate = rate }) l)))
+
+-- Two bytes, the first below a and the second below b.
+pub record Two : Type 0 where
+  pub one : ℕ
+  pub other : ℕ
+
+unfoldable pub two : ℕ → ℕ → List ℕ → Read Two
+two a b l = andThen (byteBelow a l) (λ x l. andThen (byteBelow b l) (λ y l. value (record { one = x; other = y }) l))
+
+-- Sites, count s from 1 to 8: may-join flag, join fixed amount, join rate.
+abbrev pub noSites : ℕ → Sites
+noSites s = record { count = s; may = replicate 8 0; fixed = replicate 8 0; rate = replicate 8 0 }
+
+abbrev pub withSite : ℕ → Sites → Terms → Sites
+withSite i a t = record { count = a .count; may = set (a .may) i (t .flag); fixed = set (a .fixed) i (t .fixed); rate = set (a .rate) i (t .rate) }
+
+unfoldable pub site : ℕ → Sites → List ℕ → Read Sites
+site i a l = andThen (terms l) (λ t l. value (withSite i a t) l)
+
+unfoldable pub sitesSection : List ℕ → Read Sites
+sitesSection l = andThen (countField 1 8 l) (λ s l. items site s 0 (noSites s) l)
+
+-- Relations, count n from 1 to 9: home site byte, index flag.
+abbrev pub noRelations : ℕ → Relations
+noRelations n = record { count = n; home = replicate 9 0; index = replicate 9 0 }
+
+abbrev pub withRelation : ℕ → Relations → Two → Relations
+withRelation i a t = record { count = a .count; home = set (a .home) i (t .one); index = set (a .index) i (t .other) }
+
+unfoldable pub relation : ℕ → ℕ → Relations → List ℕ → Read Relations
+relation s i a l = andThen (two s 2 l) (λ t l. value (withRelation i a t) l)
+
+unfoldable pub relationsSection : ℕ → List ℕ → Read Relations
+relationsSection s l = andThen (countField 1 9 l) (λ n l. items (relation s) n 0 (noRelations n) l)
+
+-- Joins, count n - 1: first relation, second relation.
+abbrev pub noJoins : ℕ → Joins
+noJoins m = record { count = m; first = replicate 8 0; second = replicate 8 0 }
+
+abbrev pub withJoin : ℕ → Joins → Two → Joins
+withJoin i a t = record { count = a .count; first = set (a .first) i (t .one); second = set (a .second) i (t .other) }
+
+unfoldable pub join : ℕ → ℕ → Joins → List ℕ → Read Joins
+join n i a l = andThen (two n n l) (λ t l. value (withJoin i a t) l)
+
+unfoldable pub joinsSection : ℕ → List ℕ → Read Joins
+joinsSection n l = andThen (countField (n - 1) (n - 1) l) (λ m l. items (join n) m 0 (noJoins m) l)
+
+-- Sizes, count = number of subqueries, in two bytes: an amount each, ascending subquery number.
+unfoldable pub sized : Joins → ℕ → ℕ → List ℕ → List ℕ → Read (List ℕ)
+sized J n S a l = pick (isSubquery J n S) (andThen (amountUpTo 1_000_000_000 l) (λ v l. value (set a S v) l)) (value a l)
+
+unfoldable pub sizesSection : Joins → ℕ → List ℕ → Read (List ℕ)
+sizesSection J n l = andThen (field 2 2 (subqueries J n) (subqueries J n) l) (λ m l. items (sized J n) (2 ^ n) 0 (replicate 512 0) l)
+
+-- Lines, count s(s-1): open flag, fixed amount, rate; by sender, then receiver, the sender itself left out.
+abbrev pub noLines : Lines
+noLines = record { flag = replicate 64 0; fixed = replicate 64 0; rate = replicate 64 0 }
+
+-- The lines with the line from sender a to receiver b replaced.
+abbrev pub withLine : ℕ → ℕ → Lines → Terms → Lines
+withLine a b ls t =
+    record { flag = set (ls .flag) (8 * a + b) (t .flag); fixed = set (ls .fixed) (8 * a + b) (t .fixed); rate = set (ls .rate) (8 * a + b) (t .rate) }
+
+unfoldable pub line : ℕ → ℕ → Lines → List ℕ → Read Lines
+line a b ls l = pick (eqb a b) (value ls l) (andThen (terms l) (λ t l. value (withLine a b ls t) l))
+
+unfoldable pub sender : ℕ → ℕ → Lines → List ℕ → Read Lines
+sender s a ls l = items (line a) s 0 ls l
+
+unfoldable pub linesSection : ℕ → List ℕ → Read Lines
+linesSection s l = andThen (countField (s * (s - 1)) (s * (s - 1)) l) (λ m l. items (sender s) s 0 noLines l)
+
+-- Delivery, count 1: query site byte.
+unfoldable pub deliverySection : ℕ → List ℕ → Read ℕ
+deliverySection s l = andThen (countField 1 1 l) (λ m l. byteBelow s l)
+
+-- The whole file. Refusal 4 is judged after the last join, refusal 5 after Delivery.
+unfoldable pub decode : List ℕ → Read Query
+decode file =
+    andThen (sitesSection file)
+    (λ sites l.
+      andThen (relationsSection (sites .count) l)
+      (λ relations l.
+        andThen (joinsSection (relations .count) l)
+        (λ joins l.
+          pick (reaches joins (relations .count))
+          (andThen (sizesSection joins (relations .count) l)
+          (λ sizes l.
+            andThen (linesSection (sites .count) l)
+            (λ lines l.
+              andThen (deliverySection (sites .count) l)
+              (λ target l.
+                pick (eqb (length l) 0)
+                (value (record { sites = sites; relations = relations; joins = joins; sizes = sizes; lines = lines; target = target }) [])
+                (refused 5)))))
+          (refused 4))))

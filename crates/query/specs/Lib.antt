@@ -1,0 +1,7 @@
+pub mod Choice
+pub mod Cost
+pub mod Fields
+pub mod Decode
+pub mod Query
+pub mod Prices
+pub mod Theorems

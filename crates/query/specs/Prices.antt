@@ -1,0 +1,34 @@
+-- Document 01's "Prices".
+use Prim.Native.Nat.{ℕ, _+_, _*_}
+use mathlib.Core.Bool.{Bool, true, false, _&&_}
+use lib.Count.{ones}
+use lib.Dec.{eqb}
+use Rattle.relations.specs.Sets.{lowest}
+use Rattle.query.specs.declared.Query.{Query}
+use Rattle.query.specs.Choice.{pick}
+use Rattle.query.specs.Cost.{Cost, none, some}
+use Rattle.query.specs.Query.{relationsOf, home, index, joinFixed, joinRate, isOpen, lineFixed, lineRate, size}
+
+-- The price of a line from a to b for a set P: line fixed + line rate × size.
+unfoldable pub linePrice : Query → ℕ → ℕ → ℕ → ℕ
+linePrice q P a b = lineFixed q a b + lineRate q a b * size q P
+
+-- The carriage of P from site k to site t: nothing where it stays, the price of the direct line, none where that is closed.
+unfoldable pub carriage : Query → ℕ → ℕ → ℕ → Cost
+carriage q P k t = pick (eqb k t) (some 0) (pick (isOpen q k t) (some (linePrice q P k t)) none)
+
+-- The read of an operand: its size, spared where it is read by its index.
+unfoldable pub read : Bool → ℕ → ℕ
+read spared x = pick spared 0 x
+
+-- The reads of a join's two operands, each with whether it is spared and its size.
+unfoldable pub reads : Bool → ℕ → Bool → ℕ → ℕ
+reads a x b y = read a x + read b y
+
+-- The price of joining P and R at site k, a and b telling whether their reads are spared: join fixed + join rate × (reads + size of both together).
+unfoldable pub joinPrice : Query → ℕ → Bool → ℕ → Bool → ℕ → ℕ
+joinPrice q k a P b R = joinFixed q k + joinRate q k * (reads a (size q P) b (size q R) + size q (P + R))
+
+-- Whether what is delivered of S at site k is read by its index: it is one relation, k is its home (so it was never sent), and its index flag is set.
+unfoldable pub indexed : Query → ℕ → ℕ → Bool
+indexed q S k = eqb (ones S) 1 && (eqb (home q (lowest (relationsOf q) S)) k && index q (lowest (relationsOf q) S))

@@ -1,0 +1,25 @@
+-- What is proved of the decoder and the prices. The proofs are in proofs/.
+use Prim.Native.Nat.{ℕ, _+_, _*_, _≤_}
+use mathlib.Core.Path.{_≡_}
+use mathlib.Core.Bool.{Bool}
+use mathlib.Core.List.{List, []}
+use Rattle.query.specs.declared.Query.{Query}
+use Rattle.query.specs.Fields.{value}
+use Rattle.query.specs.Decode.{decode}
+use Rattle.query.specs.Query.{Valid}
+use Rattle.query.specs.Prices.{linePrice, joinPrice, reads}
+
+-- Every decoded query keeps to document 01's counts and ranges, and its joins make a tree.
+abbrev pub DecodeValid : Type 0
+DecodeValid = (file : List ℕ) (q : Query) → decode file ≡ value q [] → Valid q
+
+-- No line's price is above 1,000,001,000,000, no join's above 3,000,001,000,000.
+abbrev pub LineMost : Type 0
+LineMost = (q : Query) → Valid q → (P a b : ℕ) → linePrice q P a b ≤ 1_000_001_000_000
+
+abbrev pub JoinMost : Type 0
+JoinMost = (q : Query) → Valid q → (k : ℕ) (a : Bool) (P : ℕ) (b : Bool) (R : ℕ) → joinPrice q k a P b R ≤ 3_000_001_000_000
+
+-- The order of the operands does not matter to a join's price, and sparing a read never makes it dearer.
+abbrev pub ReadsEither : Type 0
+ReadsEither = (a : Bool) (x : ℕ) (b : Bool) (y : ℕ) → reads a x b y ≡ reads b y a x

@@ -1,0 +1,40 @@
+// The query, its file and its prices.
+use relations::Joins;
+
+// A count of bytes. Only a rate turns it into charge units.
+pub struct Bytes(pub u64);
+
+// A count of charge units: a price or a cost.
+pub struct Charge(pub u64);
+
+// The sites: whether each may join (1) or not (0), and its join's fixed amount and rate.
+pub struct Sites {
+    pub count: usize,
+    pub may: [u64; 8],
+    pub fixed: [u64; 8],
+    pub rate: [u64; 8],
+}
+
+// The relations: the home of each, and whether it has its index flag set (1) or not (0).
+pub struct Relations {
+    pub count: usize,
+    pub home: [usize; 9],
+    pub index: [u64; 9],
+}
+
+// The lines: that from site a to site b stands at 8 * a + b. Flag 1 is open, 0 closed.
+pub struct Lines {
+    pub flag: [u64; 64],
+    pub fixed: [u64; 64],
+    pub rate: [u64; 64],
+}
+
+// A query. The size of subquery S stands at S; where S is no subquery the size is 0.
+pub struct Query {
+    pub sites: Sites,
+    pub relations: Relations,
+    pub joins: Joins,
+    pub sizes: [u64; 512],
+    pub lines: Lines,
+    pub target: usize,
+}
