@@ -1,0 +1,5 @@
+pub mod Least
+pub mod Tables
+pub mod Plan
+pub mod Theorems
+pub mod Rows

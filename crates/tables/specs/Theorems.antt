@@ -1,0 +1,57 @@
+-- What is proved of the two tables and the written plan, for every valid query (every query that decodes is valid: `DecodeValid`).
+-- The proofs are in proofs/.
+use Prim.Native.Nat.{ℕ, _+_, _≤_}
+use mathlib.Core.Path.{_≡_}
+use mathlib.Core.Logic.{_↔_}
+use mathlib.Core.List.{List}
+use lib.ListN.{length}
+use Rattle.relations.specs.Trees.{Subquery}
+use Rattle.query.specs.declared.Query.{Query}
+use Rattle.query.specs.Cost.{Cost, none, some, AtMost}
+use Rattle.query.specs.Query.{Valid, relationsOf}
+use Rattle.rules.specs.Plans.{AllowedAt}
+use Rattle.tables.specs.Tables.{deliveredBy, delivered, joined, cheapest}
+use Rattle.tables.specs.Plan.{deliveredSteps, writtenDelivered, writtenJoined, writtenSteps, written}
+
+-- What a combination of two operands' figures must keep to: the sum does.
+pub record Combines (combine : ℕ → ℕ → ℕ) : Type 0 where
+  pub mono : (a b x y : ℕ) → a ≤ x → b ≤ y → combine a b ≤ combine x y
+  pub comm : (a b : ℕ) → combine a b ≡ combine b a
+
+-- The tables' own equations, without a limit on relations: Delivered by Joined of the same subquery. (Joined's is its definition.)
+abbrev pub DeliveredIs : Type 0
+DeliveredIs =
+    (combine : ℕ → ℕ → ℕ) (q : Query) → Valid q → (S t : ℕ) → Subquery (q .joins) (relationsOf q) S →
+      delivered combine q S t ≡ deliveredBy (joined combine q S) q S t
+
+-- The same for the written plan, wherever there is one.
+abbrev pub WrittenIs : Type 0
+WrittenIs =
+    (combine : ℕ → ℕ → ℕ) (q : Query) → Valid q → (S t c : ℕ) → Subquery (q .joins) (relationsOf q) S → delivered combine q S t ≡ some c →
+      writtenDelivered combine q S t ≡ deliveredSteps combine (writtenJoined combine q S) q S t
+
+-- Where Delivered(all, query site) is a number, the written plan has 1 to 34 steps, is allowed, and costs exactly that number.
+pub record WrittenAt (combine : ℕ → ℕ → ℕ) (q : Query) (c : ℕ) : Type 0 where
+  pub some-step : 1 ≤ length (writtenSteps combine q)
+  pub few-steps : length (writtenSteps combine q) ≤ 34
+  pub allowed : AllowedAt combine q (written combine q) c
+
+abbrev pub WrittenLaw : Type 0
+WrittenLaw = (combine : ℕ → ℕ → ℕ) → Combines combine → (q : Query) → Valid q → (c : ℕ) → cheapest combine q ≡ some c → WrittenAt combine q c
+
+-- Every allowed plan costs at least Delivered(all, query site), which then is a number.
+abbrev pub CheapestLaw : Type 0
+CheapestLaw = (combine : ℕ → ℕ → ℕ) → Combines combine → (q : Query) → Valid q → (plan : List ℕ) (c : ℕ) → AllowedAt combine q plan c → AtMost (cheapest combine q) c
+
+-- Delivered(all, query site) is none exactly when no list of bytes is an allowed plan.
+abbrev pub NoRouteLaw : Type 0
+NoRouteLaw =
+    (combine : ℕ → ℕ → ℕ) → Combines combine → (q : Query) → Valid q → (cheapest combine q ≡ none) ↔ ((plan : List ℕ) (c : ℕ) → AllowedAt combine q plan c → ⊥)
+
+-- No plan of base costs more than 41,000,025,000,000.
+abbrev pub PlanMostLaw : Type 0
+PlanMostLaw = (q : Query) → Valid q → (plan : List ℕ) (c : ℕ) → AllowedAt _+_ q plan c → c ≤ 41_000_025_000_000
+
+-- Nor is any figure of the tables above it, of whatever subquery.
+abbrev pub MostLaw : Type 0
+MostLaw = (q : Query) → Valid q → (S t c : ℕ) → Subquery (q .joins) (relationsOf q) S → delivered _+_ q S t ≡ some c → c ≤ 41_000_025_000_000

@@ -1,0 +1,1 @@
+// The two tables of equations (8) and (9): the cheapest plan of every subquery at every site.
