@@ -1,18 +1,17 @@
 -- The parts of a subquery by a join in it: the first part is what the subquery shares with the join's side, since that is connected and closed,
 -- and each part is connected, as no other join links the two.
-use Prim.Native.Nat.{ℕ, zero, suc, _+_, _-_, _^_, _≤_, _<_, min}
-use mathlib.Core.Path.{_≡_, refl, sym, ap, _∙_, subst}
-use mathlib.Core.Logic.{_⊎_, inl, inr}
+use Prim.Native.Nat.{ℕ, _-_, _^_, _<_, min}
+use mathlib.Core.Path.{_≡_, sym, ap, _∙_, subst}
+use mathlib.Core.Logic.{inl, inr}
 use native.Mathlib.Decide.{ℕ-discrete}
 use native.Mathlib.Omega.{arith}
 use lib.Bits.{bitAnd}
-use lib.Count.{ones}
 use Rattle.relations.specs.declared.Joins.{Joins}
 use Rattle.relations.specs.Sets.{bit, Sub}
-use Rattle.relations.specs.Growth.{first, second, inside, grow, Closed}
-use Rattle.relations.specs.Trees.{Tree, Subquery, part, rest, side}
+use Rattle.relations.specs.Growth.{first, second}
+use Rattle.relations.specs.Trees.{Tree, part, rest, side}
 use Rattle.relations.specs.Theorems.{Grown, Split, SplitLaw, PartBySide}
-use Rattle.relations.proofs.Bits.{bit-le, bit-pow, bit-and, bit-less, bit-sub, le-of-sub, sub-single, sub-apart, sub-whole, below-of-sub}
+use Rattle.relations.proofs.Bits.{bit-le, bit-pow, bit-and, bit-less, bit-sub, sub-single, sub-apart, sub-whole, below-of-sub}
 use Rattle.relations.proofs.Counts.{ones-sub, ones-pos}
 use Rattle.relations.proofs.Leads.{inside-ends}
 use Rattle.relations.proofs.Growth.{growth-least, grown-unique}
@@ -33,24 +32,27 @@ module _ (J : Joins) (n : ℕ) (t : Tree J n) (S e : ℕ) (l : e < J .count) (be
 
   -- Where S is split by the side, its halves are linked by e alone, seen from either.
   halves : (P R : ℕ) → ((r : ℕ) → bit P r ≡ min (bit S r) (bit (side J n e) r)) → ((r : ℕ) → bit R r ≡ bit S r - bit (side J n e) r)
-    → Halves J S P R (first J e) (second J e) × Halves J S R P (second J e) (first J e)
+      → Halves J S P R (first J e) (second J e) × Halves J S R P (second J e) (first J e)
   halves P R p r = (
     record {
       sums = λ i. omega (arith, p i, r i, bit-le S i, bit-le (side J n e) i);
       here = omega (arith, p (first J e), side-first J n t e l);
       there = omega (arith, r (second J e), side-second J n t e l);
       link = λ i b u w. elim (ℕ-discrete i e) [
-        yes q ↦ inr (λ B h. subst (λ (j : ℕ). bit B (first J j) ≡ bit B (second J j)) (sym q) h)
-        | no q ↦ inl (omega (arith, p (first J i), p (second J i), one-side i b q)) ]
+        | yes q ↦ inr (λ B h. subst (λ (j : ℕ). bit B (first J j) ≡ bit B (second J j)) (sym q) h)
+        | no q ↦ inl (omega (arith, p (first J i), p (second J i), one-side i b q))
+      ];
     },
     record {
       sums = λ i. omega (arith, p i, r i, bit-le S i, bit-le (side J n e) i);
       here = omega (arith, r (second J e), side-second J n t e l);
       there = omega (arith, p (first J e), side-first J n t e l);
       link = λ i b u w. elim (ℕ-discrete i e) [
-        yes q ↦ inr (λ B h. subst (λ (j : ℕ). bit B (first J j) ≡ bit B (second J j)) (sym q) (sym h))
-        | no q ↦ inl (omega (arith, r (first J i), r (second J i), one-side i b q)) ]
-    })
+        | yes q ↦ inr (λ B h. subst (λ (j : ℕ). bit B (first J j) ≡ bit B (second J j)) (sym q) (sym h))
+        | no q ↦ inl (omega (arith, r (first J i), r (second J i), one-side i b q))
+      ];
+    },
+  )
 
   masked : ℕ
   masked = bitAnd S (side J n e)
@@ -69,9 +71,9 @@ module _ (J : Joins) (n : ℕ) (t : Tree J n) (S e : ℕ) (l : e < J .count) (be
     within = λ r. omega (arith, masked-bit r);
     closed = λ i b d u w. omega (arith, masked-bit (first J i), masked-bit (second J i), one-side i b d);
     least = λ C k s. masked-conn .whole C (λ i b d u w.
-      k i b (λ q. omega (arith, subst (λ (j : ℕ). bit masked (second J j) ≡ 1) q w, masked-bit (second J e), side-second J n t e l))
+        k i b (λ q. omega (arith, subst (λ (j : ℕ). bit masked (second J j) ≡ 1) q w, masked-bit (second J e), side-second J n t e l))
         (omega (arith, u, masked-bit (first J i), bit-le S (first J i))) (omega (arith, w, masked-bit (second J i), bit-le S (second J i))))
-      (first J e) first-in (omega (arith, s (first J e), bit-pow (first J e), bit-le C (first J e)))
+        (first J e) first-in (omega (arith, s (first J e), bit-pow (first J e), bit-le C (first J e)));
   }
     where
       first-in : bit masked (first J e) ≡ 1
@@ -107,7 +109,7 @@ module _ (J : Joins) (n : ℕ) (t : Tree J n) (S e : ℕ) (l : e < J .count) (be
         whole = sub-whole (part J n S e) S part-within;
         count = sum;
         first-fewer = omega (arith, sum, second-some);
-        second-fewer = omega (arith, sum, first-some)
+        second-fewer = omega (arith, sum, first-some);
       }
 
 pub split : SplitLaw
@@ -130,5 +132,8 @@ split-smaller J n S e s =
     let p = subquery-range J n (part J n S e) (s .first-part) in
     let r = subquery-range J n (rest J n S e) (s .second-part) in
     record {
-      first-some = p .0; second-some = r .0; first-less = omega (arith, s .whole, r .0); second-less = omega (arith, s .whole, p .0)
+      first-some = p .0;
+      second-some = r .0;
+      first-less = omega (arith, s .whole, r .0);
+      second-less = omega (arith, s .whole, p .0);
     }
