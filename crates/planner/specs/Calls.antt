@@ -72,7 +72,8 @@ relined q l =
       joins = q .joins;
       sizes = q .sizes;
       lines = withLine (l .sender) (l .receiver) (q .lines) (l .terms);
-      target = q .target }
+      target = q .target;
+    }
 
 -- Link: replaces that line and drops the kept plan. Refusals 20, 6, 3.
 abbrev pub linkQuery : Option Query → Link → State → Done

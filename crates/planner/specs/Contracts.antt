@@ -26,7 +26,8 @@ abbrev pub stateOf : Planner → State
 stateOf p =
     record {
       query = pick (p .loaded) (some (p .query)) none;
-      kept = pick (p .kept) (some (record { plan = take (p .length) (p .plan); cost = p .cost .0 })) none }
+      kept = pick (p .kept) (some (record { plan = take (p .length) (p .plan); cost = p .cost .0 })) none;
+    }
 
 -- The answers by document 01's numbers and values.
 abbrev pub ofLoad : LoadAnswer → Answer
