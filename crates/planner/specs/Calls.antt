@@ -56,6 +56,9 @@ pub record Link : Type 0 where
   pub receiver : ℕ
   pub terms : Terms
 
+abbrev pub linkOf : (sender receiver flag fixed rate : ℕ) → Link
+linkOf a b o f r = record { sender = a; receiver = b; terms = record { flag = o; fixed = f; rate = r } }
+
 -- Refusal 6 where it names an unlisted site, or one site twice; refusal 3 where a field is out of range.
 unfoldable pub sitesListed : Query → Link → Bool
 sitesListed q l = (ltb (l .sender) (sitesOf q) && ltb (l .receiver) (sitesOf q)) && not (eqb (l .sender) (l .receiver))

@@ -17,5 +17,5 @@ pub record State : Type 0 where
   pub kept : Option Kept
 
 -- Empty means both nothing.
-abbrev pub empty : State
-empty = record { query = none; kept = none }
+abbrev pub nothing : State
+nothing = record { query = none; kept = none }
