@@ -1,4 +1,16 @@
 // Sets of relations, the joins between them, growth along joins, and the two parts of a subquery.
+mod member;
+mod growing;
+mod tree;
+mod subquery;
+
+pub use member::bit;
+pub use growing::grow;
+pub use tree::reaches;
+pub use tree::sides;
+pub use subquery::is_subquery;
+pub use subquery::subqueries;
+pub use subquery::counted;
 
 // The joins of a query: join e links relations first[e] and second[e], for e below count.
 pub struct Joins {
