@@ -4,7 +4,7 @@ use crate::member::bit;
 use crate::member::with;
 ghost use Prim.Native.Nat.{_+_, _≤_, _<_};
 ghost use mathlib.Core.Path.{_≡_};
-ghost use Rattle.relations.specs.Growth.{leads, along, grow};
+ghost use Rattle.relations.specs.Growth.{first, second, leads, along, grow};
 ghost use Rattle.relations.specs.Code.{FirstLeading, Growable};
 
 // Join e leads out of the taken relations, within a set and skipping a join.

@@ -16,7 +16,7 @@ pub fn with(set: usize, r: usize) -> usize
     requires { ⌜ r < 64 ⌝ }
     ensures { λ v. ⌜ v ≡ put set r ⌝ }
 {
-    set | (1 << r)
+    set | single(r)
 }
 
 // The set of relation r alone.

@@ -12,7 +12,7 @@ ghost use Rattle.relations.specs.Code.{joinsOf, tally, both, Drawn, ends
 // One more where the test holds.
 fn tally(yes: bool, n: usize) -> usize
     requires { ⌜ n < 2 ^ 32 ⌝ }
-    ensures { λ r. ⌜ r ≡ tally yes n ⌝ }
+    ensures { λ r. ⌜ (r ≡ tally yes n) × (r ≤ n + 1) ⌝ }
 {
     if yes { n + 1 } else { n }
 }
@@ -71,16 +71,16 @@ fn drawn(joins: Joins) -> bool
     ensures { λ r. ⌜ r ≡ endsBelow joins (joins .count + 1) (joins .count) ⌝ }
 {
     let count = joins.count;
+    let n = count + 1;
+    let mut ok = true;
     let mut e = 0;
     while e < count {
         let f = joins.first[e];
         let s = joins.second[e];
-        if (count < f) | (count < s) {
-            return false;
-        }
+        ok = ok & ((f < n) & (s < n));
         e += 1;
     }
-    true
+    ok
 }
 
 // The number of subqueries of any joins, and 0 where they are too many or make no tree.

@@ -1,0 +1,68 @@
+use Rattle.relations.specs.Growth.{leads, inside}
+use borrow.Author.Needs.{needs}
+use Rattle.relations.proofs.growing.leads.Statement.{statement}
+use Rattle.relations.proofs.growing.leads.Tie as tie
+use Rattle.relations.proofs.growing.leads.Reads as reads
+use Rattle.relations.proofs.growing.leads.Lts as lts
+use Rattle.relations.proofs.member.bit.Reads as bit-reads
+
+-- src/growing.rt:15:13
+mul-f : tie.Need-mul-f
+mul-f c = search needs
+
+-- src/growing.rt:15:13
+element-copy-out-f : tie.Need-element-copy-out-f
+element-copy-out-f c = search needs
+
+-- src/growing.rt:16:13
+mul-s : tie.Need-mul-s
+mul-s c = search needs
+
+-- src/growing.rt:16:13
+element-copy-out-s : tie.Need-element-copy-out-s
+element-copy-out-s c = search needs
+
+-- src/growing.rt:17:20
+bit-requires : tie.Need-bit-requires
+bit-requires c κs = search needs
+
+-- src/growing.rt:17:37
+bit-requires-2 : tie.Need-bit-requires-2
+bit-requires-2 c κs = search needs
+
+-- src/growing.rt:17:20
+add-result : tie.Need-add-result
+add-result c = search needs
+
+-- src/growing.rt:17:61
+bit-requires-3 : tie.Need-bit-requires-3
+bit-requires-3 c κs = search needs
+
+-- src/growing.rt:17:77
+bit-requires-4 : tie.Need-bit-requires-4
+bit-requires-4 c κs = search needs
+
+-- src/growing.rt:17:61
+add-result-2 : tie.Need-add-result-2
+add-result-2 c = search needs
+
+-- src/growing.rt:11:1
+returns : tie.Need-returns
+unfolding leads inside
+returns c = cc
+
+pub leads-spec : {M : Type 1} → statement M
+leads-spec =
+    tie.close
+    (tie.spec
+    mul-f
+    element-copy-out-f
+    mul-s
+    element-copy-out-s
+    bit-requires
+    bit-requires-2
+    add-result
+    bit-requires-3
+    bit-requires-4
+    add-result-2
+    returns)

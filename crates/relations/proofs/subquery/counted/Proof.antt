@@ -1,0 +1,48 @@
+use borrow.Author.Needs.{needs}
+use Rattle.relations.proofs.subquery.counted.Statement.{statement}
+use Rattle.relations.proofs.subquery.counted.Tie as tie
+use Rattle.relations.proofs.subquery.counted.Reads as reads
+use Rattle.relations.proofs.subquery.counted.Lts as lts
+use Rattle.relations.proofs.subquery.drawn.Reads as drawn-reads
+use Rattle.relations.proofs.subquery.subqueries.Reads as subqueries-reads
+use Rattle.relations.proofs.tree.reaches.Reads as reaches-reads
+
+-- src/subquery.rt:91:9
+returns : tie.Need-returns
+returns c = ?
+
+-- src/subquery.rt:93:8
+drawn-requires : tie.Need-drawn-requires
+drawn-requires c κs = search needs
+
+-- src/subquery.rt:95:9
+returns-2 : tie.Need-returns-2
+returns-2 c = ?
+
+-- src/subquery.rt:97:8
+reaches-requires : tie.Need-reaches-requires
+reaches-requires c κs = ?
+
+-- src/subquery.rt:98:9
+subqueries-requires : tie.Need-subqueries-requires
+subqueries-requires c κs = ?
+
+-- src/subquery.rt:87:1
+returns-3 : tie.Need-returns-3
+returns-3 c = ?
+
+-- src/subquery.rt:87:1
+returns-4 : tie.Need-returns-4
+returns-4 c = ?
+
+pub counted-spec : {M : Type 1} → statement M
+counted-spec =
+    tie.close
+    (tie.spec
+    returns
+    drawn-requires
+    returns-2
+    reaches-requires
+    subqueries-requires
+    returns-3
+    returns-4)
