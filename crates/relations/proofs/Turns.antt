@@ -2,13 +2,18 @@
 use Prim.Native.Nat.{ℕ, zero, suc, _+_, _-_, _^_, _≤_, _<_}
 use mathlib.Core.Path.{_≡_, refl, sym, ap, _∙_}
 use mathlib.Core.Bool.{Bool, true, false, _&&_}
+use mathlib.Core.List.{List}
 use native.Mathlib.Numerals.{add-one}
 use native.Mathlib.Omega.{arith}
+use borrow.Author.Count.{below-more}
 use lib.Dec.{eqb, ltb}
+use lib.ListN.{length, getD, set, length-set}
+use lib.Pow.{pow-mono}
+use lib.Seq.{getD-set-same, getD-set-other}
 use Rattle.relations.specs.declared.Joins.{Joins}
 use Rattle.relations.specs.Growth.{first, second, inside}
-use Rattle.relations.specs.Trees.{isSubquery, countBelow, joinsIn}
-use Rattle.relations.specs.Code.{tally, both, endsBelow}
+use Rattle.relations.specs.Trees.{isSubquery, countBelow, subqueries, side, joinsIn}
+use Rattle.relations.specs.Code.{tally, both, endsBelow, Drawn, SidesOf}
 
 joins-next : (J : Joins) (S e : ℕ) → joinsIn J S (suc e) ≡ tally (inside J S e) (joinsIn J S e)
 unfolding joinsIn
@@ -38,3 +43,24 @@ ends-more J n e d p = rw (add-one, p)
 -- One set more: the subqueries below it.
 pub subqueries-more : (J : Joins) (n S m r : ℕ) (d : Bool) → m ≡ countBelow J n S → d ≡ isSubquery J n S → r ≡ tally d m → r ≡ countBelow J n (S + 1)
 subqueries-more J n S m r d p q h = cc (add-one S, subqueries-next J n S)
+
+-- One side more.
+pub sides-more : (J : Joins) (l : List ℕ) (e v : ℕ) → Drawn J → e < J .count → SidesOf J l e → v ≡ side J (J .count + 1) e → SidesOf J (set l e v) (e + 1)
+sides-more J l e v d h s q =
+    record {
+      eight = length-set l e v ∙ s .eight;
+      each =
+        below-more (λ (i : ℕ). getD (set l e v) i 0 ≡ side J (J .count + 1) i) e
+        (λ i k. getD-set-other l e i v 0 (omega arith) ∙ s .each i k)
+        (getD-set-same l e v 0 (omega (arith, s .eight, d .few)) ∙ q);
+    }
+
+pub sides-done : (J : Joins) (l : List ℕ) (e : ℕ) → SidesOf J l e → J .count ≤ e → SidesOf J l (J .count)
+sides-done J l e s h = record { eight = s .eight; each = λ i k. s .each i (omega arith) }
+
+pub subqueries-done : (J : Joins) (n S m end : ℕ) → m ≡ countBelow J n S → S ≤ end → end ≤ S → end ≡ 2 ^ n → m ≡ subqueries J n
+subqueries-done J n S m end p l h q = let last : S ≡ 2 ^ n = omega arith in cc
+
+-- The sets of at most nine relations are few.
+pub few-sets : (m s : ℕ) → m ≤ 8 → s ≡ 2 ^ (m + 1) → s ≤ 512
+few-sets m s h q = let most : 2 ^ (m + 1) ≤ 2 ^ 9 = pow-mono {j = 9} (omega arith) in omega arith

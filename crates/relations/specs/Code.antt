@@ -20,6 +20,12 @@ pub record Drawn (J : Joins) : Type 0 where
   pub first-in : (e : ℕ) → e < J .count → first J e < J .count + 1
   pub second-in : (e : ℕ) → e < J .count → second J e < J .count + 1
 
+-- Join e is one of at most eight, and its relations are bits of a word.
+pub record Ends (J : Joins) (e : ℕ) : Type 0 where
+  pub low : e < 8
+  pub first-low : first J e < 64
+  pub second-low : second J e < 64
+
 -- What growth asks: a set of relations, and a part of it to grow from.
 pub record Growable (J : Joins) (S A : ℕ) : Type 0 where
   pub drawn : Drawn J
@@ -51,6 +57,11 @@ unfoldable pub endsBelow : Joins → ℕ → ℕ → Bool
 endsBelow J n zero = true
 endsBelow J n (suc m) = endsBelow J n m && (ltb (first J m) n && ltb (second J m) n)
 
+-- n where the test holds, else 0.
+abbrev pub orNone : Bool → ℕ → ℕ
+orNone true n = n
+orNone false n = 0
+
 -- The number of subqueries of any joins, and 0 where they are more than eight or make no tree.
 unfoldable pub counted : Joins → ℕ
-counted J = elim ((leb (J .count) 8 && endsBelow J (J .count + 1) (J .count)) && reaches J (J .count + 1)) [ true ↦ subqueries J (J .count + 1) | false ↦ 0 ]
+counted J = orNone ((leb (J .count) 8 && endsBelow J (J .count + 1) (J .count)) && reaches J (J .count + 1)) (subqueries J (J .count + 1))

@@ -4,8 +4,8 @@ use crate::member::bit;
 use crate::member::with;
 ghost use Prim.Native.Nat.{_+_, _≤_, _<_};
 ghost use mathlib.Core.Path.{_≡_};
-ghost use Rattle.relations.specs.Growth.{first, second, leads, along, grow};
-ghost use Rattle.relations.specs.Code.{FirstLeading, Growable};
+ghost use Rattle.relations.specs.Growth.{leads, along, grow};
+ghost use Rattle.relations.specs.Code.{Ends, FirstLeading, Growable};
 
 // Join e leads out of the taken relations, within a set and skipping a join.
 fn leads(joins: Joins, within: usize, skip: usize, taken: usize, e: usize) -> bool
@@ -35,7 +35,7 @@ fn first_leading(joins: Joins, within: usize, skip: usize, taken: usize) -> usiz
 
 // The taken relations and the two of join e.
 fn along(joins: Joins, taken: usize, e: usize) -> usize
-    requires { ⌜ (e < 8) × (first joins e < 64) × (second joins e < 64) ⌝ }
+    requires { ⌜ Ends joins e ⌝ }
     ensures { λ r. ⌜ r ≡ along joins taken e ⌝ }
 {
     let f = joins.first[e];

@@ -1,6 +1,14 @@
-use Prim.Native.Nat.{ℕ, _<_}
+-- The growth calls itself with one relation more taken, so the measure, the relations that are allowed and not yet taken, falls.
+use Prim.Native.Nat.{ℕ, _-_, _<_}
+use mathlib.Core.Path.{_≡_, ap, _∙_, subst, sym}
+use native.Mathlib.Omega.{arith}
+use lib.Count.{ones}
+use borrow.Author.Needs.{needs}
 use borrow.Fn.Kinds.{In}
 use borrow.Fn.PlainCycle.{Measures, is, falls, and}
+use Rattle.relations.specs.Growth.{along}
+use Rattle.relations.specs.Code.{Growable}
+use Rattle.relations.proofs.Following.{ends-low, grow-done, follow-within, follow-same, follow-falls}
 use Rattle.relations.proofs.growing.grow.Reads as grow
 use Rattle.relations.proofs.growing.grow.Kinds as grow-kinds
 use Rattle.relations.proofs.growing.+grow.Lts-grow as grow-lts
@@ -10,7 +18,7 @@ use Rattle.relations.proofs.growing.+grow.{statement}
 use Rattle.relations.proofs.growing.+grow.Tie.{close}
 
 abbrev μ-grow : Measures 0 grow-kinds.ps ℕ
-μ-grow κs a = ?
+μ-grow κs a = ones (a .1 .0) - ones (a .1 .1 .1 .0)
 
 abbrev grow-at : ℕ → In 0 grow-kinds.ps
 grow-at t = and 0 grow-kinds.ps (is 0 grow-kinds.ps μ-grow t) grow.Pre
@@ -18,74 +26,26 @@ grow-at t = and 0 grow-kinds.ps (is 0 grow-kinds.ps μ-grow t) grow.Pre
 abbrev grow-below : ℕ → In 0 grow-kinds.ps
 grow-below t = and 0 grow-kinds.ps (falls 0 grow-kinds.ps _<_ μ-grow t) grow.Pre
 
--- src/growing.rt:51:9
-grow-first-leading-requires : (t : ℕ) → grow-lts.Need-first-leading-requires (
-  first-leading-reads.Asked,
-  first-leading-reads.Learnt,
-  along-reads.Asked,
-  along-reads.Learnt,
-  grow-below t,
-  grow.Post,
-) (grow-at t) grow.Post
-grow-first-leading-requires t c κs = ?
+abbrev calls : ℕ → grow-lts.Claims
+calls t = (first-leading-reads.Asked, first-leading-reads.Learnt, along-reads.Asked, along-reads.Learnt, grow-below t, grow.Post)
 
--- src/growing.rt:53:35
-grow-along-requires : (t : ℕ) → grow-lts.Need-along-requires (
-  first-leading-reads.Asked,
-  first-leading-reads.Learnt,
-  along-reads.Asked,
-  along-reads.Learnt,
-  grow-below t,
-  grow.Post,
-) (grow-at t) grow.Post
-grow-along-requires t c κs = ?
+grow-first-leading-requires : (t : ℕ) → grow-lts.Need-first-leading-requires (calls t) (grow-at t) grow.Post
+grow-first-leading-requires t c κs = search needs
 
--- src/growing.rt:53:9
-grow-grow-requires : (t : ℕ) → grow-lts.Need-grow-requires (
-  first-leading-reads.Asked,
-  first-leading-reads.Learnt,
-  along-reads.Asked,
-  along-reads.Learnt,
-  grow-below t,
-  grow.Post,
-) (grow-at t) grow.Post
-grow-grow-requires t c κs = ?
+grow-along-requires : (t : ℕ) → grow-lts.Need-along-requires (calls t) (grow-at t) grow.Post
+grow-along-requires t c κs = search (needs, ends-low)
 
--- src/growing.rt:47:1
-grow-returns : (t : ℕ) → grow-lts.Need-returns (
-  first-leading-reads.Asked,
-  first-leading-reads.Learnt,
-  along-reads.Asked,
-  along-reads.Learnt,
-  grow-below t,
-  grow.Post,
-) (grow-at t) grow.Post
-grow-returns t c = ?
+grow-grow-requires : (t : ℕ) → grow-lts.Need-grow-requires (calls t) (grow-at t) grow.Post
+grow-grow-requires t c κs = (search (needs, follow-falls), search (needs, follow-within))
 
--- src/growing.rt:47:1
-grow-returns-2 : (t : ℕ) → grow-lts.Need-returns-2 (
-  first-leading-reads.Asked,
-  first-leading-reads.Learnt,
-  along-reads.Asked,
-  along-reads.Learnt,
-  grow-below t,
-  grow.Post,
-) (grow-at t) grow.Post
-grow-returns-2 t c = ?
+grow-returns : (t : ℕ) → grow-lts.Need-returns (calls t) (grow-at t) grow.Post
+grow-returns t c = search (needs, follow-same)
+
+grow-returns-2 : (t : ℕ) → grow-lts.Need-returns-2 (calls t) (grow-at t) grow.Post
+grow-returns-2 t c = search (needs, grow-done)
 
 pub +grow-spec : {M : Type 1} → statement M
-+grow-spec = close μ-grow λ t. grow-lts.spec (
-  first-leading-reads.Asked,
-  first-leading-reads.Learnt,
-  along-reads.Asked,
-  along-reads.Learnt,
-  grow-below t,
-  grow.Post,
-)
-    (grow-at t)
-    grow.Post
-    (grow-first-leading-requires t)
-    (grow-along-requires t)
-    (grow-grow-requires t)
-    (grow-returns t)
++grow-spec =
+    close μ-grow λ t.
+    grow-lts.spec (calls t) (grow-at t) grow.Post (grow-first-leading-requires t) (grow-along-requires t) (grow-grow-requires t) (grow-returns t)
     (grow-returns-2 t)

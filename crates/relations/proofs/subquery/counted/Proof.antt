@@ -1,3 +1,5 @@
+-- Each test of the code is a test of the definition, and joins that pass all three are a tree.
+use Rattle.relations.proofs.Drawing.{drawn-of, tree-of, counted-many, counted-astray, counted-apart, counted-tree}
 use borrow.Author.Needs.{needs}
 use Rattle.relations.proofs.subquery.counted.Statement.{statement}
 use Rattle.relations.proofs.subquery.counted.Tie as tie
@@ -9,7 +11,7 @@ use Rattle.relations.proofs.tree.reaches.Reads as reaches-reads
 
 -- src/subquery.rt:91:9
 returns : tie.Need-returns
-returns c = ?
+returns c = search (needs, counted-many)
 
 -- src/subquery.rt:93:8
 drawn-requires : tie.Need-drawn-requires
@@ -17,23 +19,23 @@ drawn-requires c κs = search needs
 
 -- src/subquery.rt:95:9
 returns-2 : tie.Need-returns-2
-returns-2 c = ?
+returns-2 c = search (needs, counted-astray)
 
 -- src/subquery.rt:97:8
 reaches-requires : tie.Need-reaches-requires
-reaches-requires c κs = ?
+reaches-requires c κs = search (needs, drawn-of)
 
 -- src/subquery.rt:98:9
 subqueries-requires : tie.Need-subqueries-requires
-subqueries-requires c κs = ?
+subqueries-requires c κs = (search needs, search (needs, drawn-of, tree-of))
 
 -- src/subquery.rt:87:1
 returns-3 : tie.Need-returns-3
-returns-3 c = ?
+returns-3 c = search (needs, counted-tree)
 
 -- src/subquery.rt:87:1
 returns-4 : tie.Need-returns-4
-returns-4 c = ?
+returns-4 c = search (needs, counted-apart)
 
 pub counted-spec : {M : Type 1} → statement M
 counted-spec =

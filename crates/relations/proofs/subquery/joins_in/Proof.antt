@@ -58,7 +58,11 @@ loop-less c = search needs
 
 -- src/subquery.rt:34:5
 loop-again : tie.Need-loop-again Inv-loop μ-loop
-loop-again c = (search needs, (search needs, search (needs, joins-more)))
+loop-again c =
+    let s = c .before .before .before .before .before .before .before .before in
+    let J = joinsOf (s .args .count) (s .args .first .now) (s .args .second .now) in
+    let inv = c .before .before .before .before .before .loop .inv in
+    (search needs, (search needs, joins-more J _ _ _ _ _ (inv .1 .1) (c .before .both .ensures) (c .tally .ensures .0)))
 
 -- src/subquery.rt:28:1
 returns : tie.Need-returns Inv-loop μ-loop

@@ -4,7 +4,7 @@ use mathlib.Core.Path.{_≡_}
 use native.Mathlib.Omega.{arith}
 use borrow.Author.Needs.{needs}
 use Rattle.relations.specs.Trees.{countBelow}
-use Rattle.relations.proofs.Turns.{subqueries-more}
+use Rattle.relations.proofs.Turns.{few-sets, subqueries-more, subqueries-done}
 use Rattle.relations.proofs.subquery.subqueries.Statement.{statement}
 use Rattle.relations.proofs.subquery.subqueries.Tie as tie
 use Rattle.relations.proofs.subquery.subqueries.Reads as reads
@@ -14,7 +14,7 @@ use Rattle.relations.proofs.subquery.is_subquery.Reads as is-subquery-r
 use Rattle.relations.proofs.subquery.tally.Reads as tally-reads
 
 abbrev Inv-loop : tie.InvT-loop
-Inv-loop joins count end n₀ set₀ n set = (set ≤ end) × ((end ≡ 2 ^ (count + 1)) × ((n ≤ set) × (n ≡ countBelow joins (count + 1) set)))
+Inv-loop joins count end n₀ set₀ n set = (set ≤ end) × ((end ≤ 512) × ((end ≡ 2 ^ (count + 1)) × ((n ≤ set) × (n ≡ countBelow joins (count + 1) set))))
 
 abbrev μ-loop : tie.MeasureT-loop
 μ-loop joins count end n₀ set₀ n set = end - set
@@ -30,15 +30,15 @@ single-requires c κs = search needs
 -- src/subquery.rt:61:5
 loop-holds : tie.Need-loop-holds Inv-loop μ-loop
 unfolding countBelow
-loop-holds c = search needs
+loop-holds c = (search needs, (search (needs, few-sets), (search needs, search needs)))
 
 -- src/subquery.rt:62:19
 is-subquery-requires : tie.Need-is-subquery-requires Inv-loop μ-loop
-is-subquery-requires c κs = search needs
+is-subquery-requires c κs = ((search needs, search needs, search needs), (search needs, search needs))
 
 -- src/subquery.rt:62:9
 tally-requires : tie.Need-tally-requires Inv-loop μ-loop
-tally-requires c κs = ?
+tally-requires c κs = search needs
 
 -- src/subquery.rt:63:9
 add-set : tie.Need-add-set Inv-loop μ-loop
@@ -50,11 +50,11 @@ loop-less c = search needs
 
 -- src/subquery.rt:61:5
 loop-again : tie.Need-loop-again Inv-loop μ-loop
-loop-again c = (search needs, (search needs, (search needs, search (needs, subqueries-more))))
+loop-again c = (search needs, (search needs, (search needs, (search needs, search (needs, subqueries-more)))))
 
 -- src/subquery.rt:53:1
 returns : tie.Need-returns Inv-loop μ-loop
-returns c = ?
+returns c = search (needs, subqueries-done)
 
 pub subqueries-spec : {M : Type 1} → statement M
 subqueries-spec =

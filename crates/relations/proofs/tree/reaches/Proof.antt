@@ -1,3 +1,6 @@
+-- Relation 0 grows within all relations, and the answer compares what it grows to with them.
+use Rattle.relations.specs.Trees.{reaches}
+use Rattle.relations.proofs.Drawing.{root-growable}
 use borrow.Author.Needs.{needs}
 use Rattle.relations.proofs.tree.reaches.Statement.{statement}
 use Rattle.relations.proofs.tree.reaches.Tie as tie
@@ -21,11 +24,12 @@ single-requires c κs = search needs
 
 -- src/tree.rt:18:5
 grow-requires : tie.Need-grow-requires
-grow-requires c κs = ?
+grow-requires c κs = search (needs, root-growable)
 
 -- src/tree.rt:12:1
 returns : tie.Need-returns
-returns c = ?
+unfolding reaches
+returns c = cc
 
 pub reaches-spec : {M : Type 1} → statement M
 reaches-spec = tie.close (tie.spec add-whole whole-requires single-requires grow-requires returns)

@@ -1,3 +1,7 @@
+-- The join's first relation grows within all relations, skipping the join.
+use Rattle.relations.specs.Trees.{side, part}
+use Rattle.relations.proofs.Drawing.{side-growable}
+use Rattle.relations.proofs.Following.{ends-low}
 use borrow.Author.Needs.{needs}
 use Rattle.relations.proofs.tree.side.Statement.{statement}
 use Rattle.relations.proofs.tree.side.Tie as tie
@@ -25,15 +29,18 @@ element-copy-out-f c = search needs
 
 -- src/tree.rt:28:27
 single-requires : tie.Need-single-requires
-single-requires c κs = ?
+single-requires c κs =
+    let s = c .before .before in
+    ends-low (s .args .t1) (s .args .e) (s .pre .0) (s .pre .1) .first-low
 
 -- src/tree.rt:28:5
 grow-requires : tie.Need-grow-requires
-grow-requires c κs = ?
+grow-requires c κs = search (needs, side-growable)
 
 -- src/tree.rt:22:1
 returns : tie.Need-returns
-returns c = ?
+unfolding side part
+returns c = cc
 
 pub side-spec : {M : Type 1} → statement M
 side-spec =
