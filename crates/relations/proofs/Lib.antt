@@ -1,7 +1,13 @@
+pub mod Turns
+pub mod Following
+pub mod Drawing
 pub mod Bits
 pub mod Counts
 pub mod Leads
 pub mod Growth
-pub mod Turns
-pub mod Following
-pub mod Drawing
+pub mod Connected
+pub mod Sums
+pub mod Trees
+pub mod Halves
+pub mod Splits
+pub mod Unions
