@@ -46,9 +46,6 @@ single-growable J r S A d h p q =
 pub root-growable : (J : Joins) (S A : ℕ) → Drawn J → S ≡ all (J .count + 1) → A ≡ 2 ^ 0 → Growable J S A
 root-growable J S A d p q = single-growable J 0 S A d (omega arith) p q
 
-pub side-growable : (J : Joins) (e S A : ℕ) → Drawn J → e < J .count → S ≡ all (J .count + 1) → A ≡ 2 ^ first J e → Growable J S A
-side-growable J e S A d h p q = single-growable J (first J e) S A d (d .first-in e h) p q
-
 -- The count for any joins, by the tests that the code makes.
 pub counted-many : (J : Joins) → 8 < J .count → 0 ≡ counted J
 unfolding counted

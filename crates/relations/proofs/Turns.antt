@@ -6,14 +6,17 @@ use mathlib.Core.List.{List}
 use native.Mathlib.Numerals.{add-one}
 use native.Mathlib.Omega.{arith}
 use borrow.Author.Count.{below-more}
+use lib.Count.{ones}
 use lib.Dec.{eqb, ltb}
 use lib.ListN.{length, getD, set, length-set}
 use lib.Pow.{pow-mono}
 use lib.Seq.{getD-set-same, getD-set-other}
 use Rattle.relations.specs.declared.Joins.{Joins}
+use Rattle.relations.specs.Sets.{bit}
 use Rattle.relations.specs.Growth.{first, second, inside}
-use Rattle.relations.specs.Trees.{isSubquery, countBelow, subqueries, side, joinsIn}
-use Rattle.relations.specs.Code.{tally, both, endsBelow, Drawn, SidesOf}
+use Rattle.relations.specs.Trees.{isSubquery, countBelow, subqueries, side, joinsIn, Tree}
+use Rattle.relations.specs.Code.{tally, endsBelow, Drawn, SidesOf}
+use Rattle.relations.proofs.SubqueryCount.{subquery-by-count}
 
 joins-next : (J : Joins) (S e : ℕ) → joinsIn J S (suc e) ≡ tally (inside J S e) (joinsIn J S e)
 unfolding joinsIn
@@ -32,8 +35,8 @@ subqueries-next J n S = go (isSubquery J n S) refl
     go false p = rw (p, countBelow)
 
 -- One join more: the joins in a set, and the joins whose ends are in range.
-pub joins-more : (J : Joins) (S e n r : ℕ) (d : Bool) → n ≡ joinsIn J S e → d ≡ both S (first J e) (second J e) → r ≡ tally d n → r ≡ joinsIn J S (e + 1)
-unfolding inside both
+pub joins-more : (J : Joins) (S e n r : ℕ) (d : Bool) → n ≡ joinsIn J S e → d ≡ eqb (bit S (first J e) + bit S (second J e)) 2 → r ≡ tally d n → r ≡ joinsIn J S (e + 1)
+unfolding inside
 joins-more J S e n r d p q h = cc (add-one e, joins-next J S e)
 
 pub ends-more : (J : Joins) (n e : ℕ) (d : Bool) → d ≡ endsBelow J n e → (d && (ltb (first J e) n && ltb (second J e) n)) ≡ endsBelow J n (e + 1)
@@ -44,15 +47,19 @@ ends-more J n e d p = rw (add-one, p)
 pub subqueries-more : (J : Joins) (n S m r : ℕ) (d : Bool) → m ≡ countBelow J n S → d ≡ isSubquery J n S → r ≡ tally d m → r ≡ countBelow J n (S + 1)
 subqueries-more J n S m r d p q h = cc (add-one S, subqueries-next J n S)
 
+-- The test of a set by its joins.
+pub subquery-test : (J : Joins) (n S k : ℕ) → Tree J n → S < 2 ^ n → k ≡ joinsIn J S (J .count) → (ltb 0 S && eqb (k + 1) (ones S)) ≡ isSubquery J n S
+subquery-test J n S k t h q = sym (subquery-by-count J n t S h ∙ ap (λ (m : ℕ). ltb 0 S && eqb (m + 1) (ones S)) (sym q))
+
 -- One side more.
 pub sides-more : (J : Joins) (l : List ℕ) (e v : ℕ) → Drawn J → e < J .count → SidesOf J l e → v ≡ side J (J .count + 1) e → SidesOf J (set l e v) (e + 1)
 sides-more J l e v d h s q =
     record {
       eight = length-set l e v ∙ s .eight;
       each =
-        below-more (λ (i : ℕ). getD (set l e v) i 0 ≡ side J (J .count + 1) i) e
-        (λ i k. getD-set-other l e i v 0 (omega arith) ∙ s .each i k)
-        (getD-set-same l e v 0 (omega (arith, s .eight, d .few)) ∙ q);
+          below-more (λ (i : ℕ). getD (set l e v) i 0 ≡ side J (J .count + 1) i) e
+          (λ i k. getD-set-other l e i v 0 (omega arith) ∙ s .each i k)
+          (getD-set-same l e v 0 (omega (arith, s .eight, d .few)) ∙ q);
     }
 
 pub sides-done : (J : Joins) (l : List ℕ) (e : ℕ) → SidesOf J l e → J .count ≤ e → SidesOf J l (J .count)

@@ -4,9 +4,9 @@ use mathlib.Core.Path.{_≡_}
 use mathlib.Core.Bool.{Bool, true, false, _&&_}
 use mathlib.Core.List.{List}
 use lib.ListN.{length, getD}
-use lib.Dec.{leb, ltb, eqb}
+use lib.Dec.{leb, ltb}
 use Rattle.relations.specs.declared.Joins.{Joins}
-use Rattle.relations.specs.Sets.{bit, Sub}
+use Rattle.relations.specs.Sets.{Sub}
 use Rattle.relations.specs.Growth.{first, second, leads}
 use Rattle.relations.specs.Trees.{reaches, side, subqueries}
 
@@ -47,10 +47,6 @@ pub record SidesOf (J : Joins) (l : List ℕ) (m : ℕ) : Type 0 where
 abbrev pub tally : Bool → ℕ → ℕ
 tally true n = suc n
 tally false n = n
-
--- Relations f and s are both in S.
-unfoldable pub both : ℕ → ℕ → ℕ → Bool
-both S f s = eqb (bit S f + bit S s) 2
 
 -- The ends of the first m joins are below n.
 unfoldable pub endsBelow : Joins → ℕ → ℕ → Bool

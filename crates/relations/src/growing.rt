@@ -1,6 +1,7 @@
 // Growth of a set of relations along joins: the part beyond a join, one relation at a time.
 use crate::Joins;
 use crate::member::bit;
+use crate::member::both;
 use crate::member::with;
 ghost use Prim.Native.Nat.{_+_, _≤_, _<_};
 ghost use mathlib.Core.Path.{_≡_};
@@ -14,7 +15,7 @@ fn leads(joins: Joins, within: usize, skip: usize, taken: usize, e: usize) -> bo
 {
     let f = joins.first[e];
     let s = joins.second[e];
-    (e != skip) & (bit(within, f) + bit(within, s) == 2) & (bit(taken, f) + bit(taken, s) == 1)
+    (e != skip) & both(within, f, s) & (bit(taken, f) + bit(taken, s) == 1)
 }
 
 // The lowest join that leads out, and the count of joins where none does.

@@ -1,6 +1,7 @@
 // Membership in a set of relations, and a set with one relation more.
-ghost use Prim.Native.Nat.{_-_, _^_, _<_};
+ghost use Prim.Native.Nat.{_+_, _-_, _^_, _<_};
 ghost use mathlib.Core.Path.{_≡_};
+ghost use lib.Dec.{eqb};
 ghost use Rattle.relations.specs.Sets.{bit, put, all};
 
 // 1 where relation r is in the set, else 0.
@@ -9,6 +10,13 @@ pub fn bit(set: usize, r: usize) -> usize
     ensures small { λ v. ⌜ v < 2 ⌝ }
 {
     if r < 64 { (set >> r) % 2 } else { 0 }
+}
+
+// Relations f and s are both in the set.
+pub fn both(set: usize, f: usize, s: usize) -> bool
+    ensures { λ r. ⌜ r ≡ eqb (bit set f + bit set s) 2 ⌝ }
+{
+    bit(set, f) + bit(set, s) == 2
 }
 
 // The set with relation r, whether r was in it or not.

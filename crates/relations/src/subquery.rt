@@ -1,13 +1,13 @@
 // Which sets of relations are subqueries: in a tree, those that hold one join fewer than relations. No growth is needed.
 use crate::Joins;
-use crate::member::bit;
+use crate::member::both;
 use crate::member::single;
 use crate::tree::reaches;
 ghost use Prim.Native.Nat.{_+_, _^_, _≤_, _<_};
 ghost use mathlib.Core.Path.{_≡_};
 ghost use lib.ListN.{length};
 ghost use Rattle.relations.specs.Trees.{isSubquery, subqueries, joinsIn, Tree};
-ghost use Rattle.relations.specs.Code.{joinsOf, tally, both, Drawn, endsBelow, counted};
+ghost use Rattle.relations.specs.Code.{joinsOf, tally, endsBelow, counted};
 
 // One more where the test holds.
 fn tally(yes: bool, n: usize) -> usize
@@ -15,13 +15,6 @@ fn tally(yes: bool, n: usize) -> usize
     ensures { λ r. ⌜ (r ≡ tally yes n) × (r ≤ n + 1) ⌝ }
 {
     if yes { n + 1 } else { n }
-}
-
-// Relations f and s are both in the set.
-fn both(set: usize, f: usize, s: usize) -> bool
-    ensures { λ r. ⌜ r ≡ both set f s ⌝ }
-{
-    bit(set, f) + bit(set, s) == 2
 }
 
 // How many joins lie in the set.
@@ -91,11 +84,7 @@ pub fn counted(joins: Joins) -> usize
         return 0;
     }
     if drawn(joins) {
-    } else {
-        return 0;
-    }
-    if reaches(joins) {
-        subqueries(joins)
+        if reaches(joins) { subqueries(joins) } else { 0 }
     } else {
         0
     }

@@ -1,13 +1,9 @@
 -- The growth calls itself with one relation more taken, so the measure, the relations that are allowed and not yet taken, falls.
 use Prim.Native.Nat.{ℕ, _-_, _<_}
-use mathlib.Core.Path.{_≡_, ap, _∙_, subst, sym}
-use native.Mathlib.Omega.{arith}
 use lib.Count.{ones}
 use borrow.Author.Needs.{needs}
 use borrow.Fn.Kinds.{In}
 use borrow.Fn.PlainCycle.{Measures, is, falls, and}
-use Rattle.relations.specs.Growth.{along}
-use Rattle.relations.specs.Code.{Growable}
 use Rattle.relations.proofs.Following.{ends-low, grow-done, follow-within, follow-same, follow-falls}
 use Rattle.relations.proofs.growing.grow.Reads as grow
 use Rattle.relations.proofs.growing.grow.Kinds as grow-kinds
@@ -29,23 +25,12 @@ grow-below t = and 0 grow-kinds.ps (falls 0 grow-kinds.ps _<_ μ-grow t) grow.Pr
 abbrev calls : ℕ → grow-lts.Claims
 calls t = (first-leading-reads.Asked, first-leading-reads.Learnt, along-reads.Asked, along-reads.Learnt, grow-below t, grow.Post)
 
-grow-first-leading-requires : (t : ℕ) → grow-lts.Need-first-leading-requires (calls t) (grow-at t) grow.Post
-grow-first-leading-requires t c κs = search needs
-
-grow-along-requires : (t : ℕ) → grow-lts.Need-along-requires (calls t) (grow-at t) grow.Post
-grow-along-requires t c κs = search (needs, ends-low)
-
-grow-grow-requires : (t : ℕ) → grow-lts.Need-grow-requires (calls t) (grow-at t) grow.Post
-grow-grow-requires t c κs = (search (needs, follow-falls), search (needs, follow-within))
-
-grow-returns : (t : ℕ) → grow-lts.Need-returns (calls t) (grow-at t) grow.Post
-grow-returns t c = search (needs, follow-same)
-
-grow-returns-2 : (t : ℕ) → grow-lts.Need-returns-2 (calls t) (grow-at t) grow.Post
-grow-returns-2 t c = search (needs, grow-done)
-
 pub +grow-spec : {M : Type 1} → statement M
 +grow-spec =
     close μ-grow λ t.
-    grow-lts.spec (calls t) (grow-at t) grow.Post (grow-first-leading-requires t) (grow-along-requires t) (grow-grow-requires t) (grow-returns t)
-    (grow-returns-2 t)
+    grow-lts.spec (calls t) (grow-at t) grow.Post
+    (λ c κs. search needs)
+    (λ c κs. search (needs, ends-low))
+    (λ c κs. (search (needs, follow-falls), search (needs, follow-within)))
+    (λ c. search (needs, follow-same))
+    (λ c. search (needs, grow-done))

@@ -1,3 +1,4 @@
+-- Each test of the code is a test of the definition, in its order.
 use Rattle.relations.specs.Growth.{leads, inside}
 use borrow.Author.Needs.{needs}
 use Rattle.relations.proofs.growing.leads.Statement.{statement}
@@ -5,48 +6,41 @@ use Rattle.relations.proofs.growing.leads.Tie as tie
 use Rattle.relations.proofs.growing.leads.Reads as reads
 use Rattle.relations.proofs.growing.leads.Lts as lts
 use Rattle.relations.proofs.member.bit.Reads as bit-reads
+use Rattle.relations.proofs.member.both.Reads as both-reads
 
--- src/growing.rt:15:13
+-- src/growing.rt:16:13
 mul-f : tie.Need-mul-f
 mul-f c = search needs
 
--- src/growing.rt:15:13
+-- src/growing.rt:16:13
 element-copy-out-f : tie.Need-element-copy-out-f
 element-copy-out-f c = search needs
 
--- src/growing.rt:16:13
+-- src/growing.rt:17:13
 mul-s : tie.Need-mul-s
 mul-s c = search needs
 
--- src/growing.rt:16:13
+-- src/growing.rt:17:13
 element-copy-out-s : tie.Need-element-copy-out-s
 element-copy-out-s c = search needs
 
--- src/growing.rt:17:20
+-- src/growing.rt:18:19
+both-requires : tie.Need-both-requires
+both-requires c κs = search needs
+
+-- src/growing.rt:18:41
 bit-requires : tie.Need-bit-requires
 bit-requires c κs = search needs
 
--- src/growing.rt:17:37
+-- src/growing.rt:18:57
 bit-requires-2 : tie.Need-bit-requires-2
 bit-requires-2 c κs = search needs
 
--- src/growing.rt:17:20
+-- src/growing.rt:18:41
 add-result : tie.Need-add-result
 add-result c = search needs
 
--- src/growing.rt:17:61
-bit-requires-3 : tie.Need-bit-requires-3
-bit-requires-3 c κs = search needs
-
--- src/growing.rt:17:77
-bit-requires-4 : tie.Need-bit-requires-4
-bit-requires-4 c κs = search needs
-
--- src/growing.rt:17:61
-add-result-2 : tie.Need-add-result-2
-add-result-2 c = search needs
-
--- src/growing.rt:11:1
+-- src/growing.rt:12:1
 returns : tie.Need-returns
 unfolding leads inside
 returns c = cc
@@ -59,10 +53,8 @@ leads-spec =
     element-copy-out-f
     mul-s
     element-copy-out-s
+    both-requires
     bit-requires
     bit-requires-2
     add-result
-    bit-requires-3
-    bit-requires-4
-    add-result-2
     returns)

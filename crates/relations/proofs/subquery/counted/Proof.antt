@@ -9,33 +9,33 @@ use Rattle.relations.proofs.subquery.drawn.Reads as drawn-reads
 use Rattle.relations.proofs.subquery.subqueries.Reads as subqueries-reads
 use Rattle.relations.proofs.tree.reaches.Reads as reaches-reads
 
--- src/subquery.rt:91:9
+-- src/subquery.rt:84:9
 returns : tie.Need-returns
 returns c = search (needs, counted-many)
 
--- src/subquery.rt:93:8
+-- src/subquery.rt:86:8
 drawn-requires : tie.Need-drawn-requires
 drawn-requires c κs = search needs
 
--- src/subquery.rt:95:9
-returns-2 : tie.Need-returns-2
-returns-2 c = search (needs, counted-astray)
-
--- src/subquery.rt:97:8
+-- src/subquery.rt:87:12
 reaches-requires : tie.Need-reaches-requires
 reaches-requires c κs = search (needs, drawn-of)
 
--- src/subquery.rt:98:9
+-- src/subquery.rt:87:29
 subqueries-requires : tie.Need-subqueries-requires
 subqueries-requires c κs = (search needs, search (needs, drawn-of, tree-of))
 
--- src/subquery.rt:87:1
-returns-3 : tie.Need-returns-3
-returns-3 c = search (needs, counted-tree)
+-- src/subquery.rt:80:1
+returns-2 : tie.Need-returns-2
+returns-2 c = search (needs, counted-tree)
 
--- src/subquery.rt:87:1
+-- src/subquery.rt:80:1
+returns-3 : tie.Need-returns-3
+returns-3 c = search (needs, counted-apart)
+
+-- src/subquery.rt:80:1
 returns-4 : tie.Need-returns-4
-returns-4 c = search (needs, counted-apart)
+returns-4 c = search (needs, counted-astray)
 
 pub counted-spec : {M : Type 1} → statement M
 counted-spec =
@@ -43,8 +43,8 @@ counted-spec =
     (tie.spec
     returns
     drawn-requires
-    returns-2
     reaches-requires
     subqueries-requires
+    returns-2
     returns-3
     returns-4)
