@@ -10,7 +10,7 @@ pub use member::single;
 pub use member::whole;
 pub use subquery::counted;
 pub use subquery::is_subquery;
-pub use subquery::subqueries;
+pub use subquery::count_subqueries;
 pub use tree::reaches;
 pub use tree::sides;
 

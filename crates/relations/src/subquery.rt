@@ -43,7 +43,7 @@ pub fn is_subquery<'a>(first: &'a [usize], second: &'a [usize], count: usize, se
 }
 
 // The number of subqueries of a tree.
-pub fn subqueries(joins: Joins) -> usize
+pub fn count_subqueries(joins: Joins) -> usize
     requires { ⌜ (joins .count ≤ 8) × Tree joins (joins .count + 1) ⌝ }
     ensures { λ r. ⌜ r ≡ subqueries joins (joins .count + 1) ⌝ }
 {
@@ -84,7 +84,7 @@ pub fn counted(joins: Joins) -> usize
         return 0;
     }
     if drawn(joins) {
-        if reaches(joins) { subqueries(joins) } else { 0 }
+        if reaches(joins) { count_subqueries(joins) } else { 0 }
     } else {
         0
     }

@@ -5,8 +5,8 @@ use native.Mathlib.Omega.{arith}
 use borrow.Author.Needs.{needs}
 use Rattle.relations.specs.Trees.{countBelow}
 use Rattle.relations.proofs.Turns.{few-sets, subqueries-more, subqueries-done}
-use Rattle.relations.proofs.subquery.subqueries.Statement.{statement}
-use Rattle.relations.proofs.subquery.subqueries.Tie as tie
+use Rattle.relations.proofs.subquery.count_subqueries.Statement.{statement}
+use Rattle.relations.proofs.subquery.count_subqueries.Tie as tie
 
 abbrev Inv-loop : tie.InvT-loop
 Inv-loop joins count end n₀ set₀ n set = (set ≤ end) × ((end ≤ 512) × ((end ≡ 2 ^ (count + 1)) × ((n ≤ set) × (n ≡ countBelow joins (count + 1) set))))
@@ -14,9 +14,9 @@ Inv-loop joins count end n₀ set₀ n set = (set ≤ end) × ((end ≤ 512) × 
 abbrev μ-loop : tie.MeasureT-loop
 μ-loop joins count end n₀ set₀ n set = end - set
 
-pub subqueries-spec : {M : Type 1} → statement M
+pub count-subqueries-spec : {M : Type 1} → statement M
 unfolding countBelow
-subqueries-spec =
+count-subqueries-spec =
     tie.close
     (tie.spec
     Inv-loop
