@@ -8,9 +8,9 @@ pub use growing::grow;
 pub use member::bit;
 pub use member::single;
 pub use member::whole;
+pub use subquery::count_subqueries;
 pub use subquery::counted;
 pub use subquery::is_subquery;
-pub use subquery::count_subqueries;
 pub use tree::reaches;
 pub use tree::sides;
 

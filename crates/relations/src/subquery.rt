@@ -84,7 +84,11 @@ pub fn counted(joins: Joins) -> usize
         return 0;
     }
     if drawn(joins) {
-        if reaches(joins) { count_subqueries(joins) } else { 0 }
+        if reaches(joins) {
+            count_subqueries(joins)
+        } else {
+            0
+        }
     } else {
         0
     }
