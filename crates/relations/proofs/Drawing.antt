@@ -1,18 +1,17 @@
 -- What the tests of the joins show: ends in range, a tree, and sets that growth may start from.
 use Prim.Native.Nat.{ℕ, zero, suc, _+_, _-_, _^_, _≤_, _<_}
-use mathlib.Core.Path.{_≡_, refl, sym, ap, _∙_, subst}
+use mathlib.Core.Path.{_≡_, refl, sym, _∙_, subst}
 use mathlib.Core.Bool.{Bool, true, false, _&&_}
 use mathlib.Core.Logic.{⊎-elim}
 use native.Mathlib.Nat.{eq-or-lt-of-le, le-of-suc-le-suc}
 use native.Mathlib.Omega.{arith}
 use borrow.Author.Tests.{ltb-true, le-leb, lt-leb}
-use lib.Dec.{leb, ltb}
-use lib.Pow.{pow-pos}
+use lib.Dec.{ltb}
 use Rattle.relations.specs.declared.Joins.{Joins}
 use Rattle.relations.specs.Sets.{Sub, all}
 use Rattle.relations.specs.Growth.{first, second}
 use Rattle.relations.specs.Trees.{reaches, subqueries, Tree}
-use Rattle.relations.specs.Code.{Drawn, Growable, endsBelow, orNone, counted}
+use Rattle.relations.specs.Code.{Drawn, Growable, endsBelow, counted}
 use Rattle.relations.proofs.Bits.{bit-all, sub-single, all-below}
 use Rattle.relations.proofs.Leads.{both-true}
 

@@ -1,12 +1,12 @@
 -- What the recursive growth leans on. It follows the lowest join that leads out: each time one relation more is taken, so what is left to take
 -- falls, and growth from there is the same growth; where no join leads out, the set is closed and is its own growth.
-use Prim.Native.Nat.{ℕ, _+_, _-_, _^_, _≤_, _<_}
+use Prim.Native.Nat.{ℕ, _+_, _-_, _≤_, _<_}
 use mathlib.Core.Path.{_≡_, sym, ap, _∙_, subst}
 use native.Mathlib.Omega.{arith}
 use lib.Count.{ones, ones-le}
 use Rattle.relations.specs.declared.Joins.{Joins}
 use Rattle.relations.specs.Sets.{Sub}
-use Rattle.relations.specs.Growth.{first, second, along, grow}
+use Rattle.relations.specs.Growth.{along, grow}
 use Rattle.relations.specs.Code.{Drawn, Ends, Growable, FirstLeading}
 use Rattle.relations.proofs.Counts.{ones-mono}
 use Rattle.relations.proofs.Leads.{Leads, leads-means, along-within, ones-along}

@@ -8,7 +8,7 @@ use lib.Dec.{leb, ltb}
 use Rattle.relations.specs.declared.Joins.{Joins}
 use Rattle.relations.specs.Sets.{Sub}
 use Rattle.relations.specs.Growth.{first, second, leads}
-use Rattle.relations.specs.Trees.{reaches, side, subqueries}
+use Rattle.relations.specs.Trees.{reaches, side, subqueries, Tree}
 
 -- Joins whose ends stand in two lists that a function is lent.
 abbrev pub joinsOf : ℕ → List ℕ → List ℕ → Joins
@@ -19,6 +19,13 @@ pub record Drawn (J : Joins) : Type 0 where
   pub few : J .count ≤ 8
   pub first-in : (e : ℕ) → e < J .count → first J e < J .count + 1
   pub second-in : (e : ℕ) → e < J .count → second J e < J .count + 1
+
+-- A tree of at most eight joins whose ends stand in two lists that a function is lent.
+pub record LentTree (m : ℕ) (f s : List ℕ) : Type 0 where
+  pub few : m ≤ 8
+  pub first-long : m ≤ length f
+  pub second-long : m ≤ length s
+  pub tree : Tree (joinsOf m f s) (m + 1)
 
 -- Join e is one of at most eight, and its relations are bits of a word.
 pub record Ends (J : Joins) (e : ℕ) : Type 0 where

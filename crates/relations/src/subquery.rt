@@ -7,7 +7,7 @@ ghost use Prim.Native.Nat.{_+_, _^_, _≤_, _<_};
 ghost use mathlib.Core.Path.{_≡_};
 ghost use lib.ListN.{length};
 ghost use Rattle.relations.specs.Trees.{isSubquery, subqueries, joinsIn, Tree};
-ghost use Rattle.relations.specs.Code.{joinsOf, tally, endsBelow, counted};
+ghost use Rattle.relations.specs.Code.{joinsOf, LentTree, tally, endsBelow, counted};
 
 // One more where the test holds.
 fn tally(yes: bool, n: usize) -> usize
@@ -33,8 +33,7 @@ fn joins_in<'a>(first: &'a [usize], second: &'a [usize], count: usize, set: usiz
 
 // The set is a subquery.
 pub fn is_subquery<'a>(first: &'a [usize], second: &'a [usize], count: usize, set: usize) -> bool
-    requires { ⌜ (count ≤ 8) × (count ≤ length (now first)) × (count ≤ length (now second)) ⌝ }
-    requires { ⌜ Tree (joinsOf count (now first) (now second)) (count + 1) ⌝ }
+    requires { ⌜ LentTree count (now first) (now second) ⌝ }
     requires { ⌜ set < 2 ^ (count + 1) ⌝ }
     ensures { λ r. ⌜ r ≡ isSubquery (joinsOf count (now (first .entry)) (now (second .entry))) (count + 1) set ⌝ }
 {

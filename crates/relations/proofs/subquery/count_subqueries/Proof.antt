@@ -1,7 +1,6 @@
 -- The loop has counted the subqueries below the set that it is at.
-use Prim.Native.Nat.{ℕ, _+_, _-_, _^_, _≤_, _<_}
+use Prim.Native.Nat.{_+_, _-_, _^_, _≤_}
 use mathlib.Core.Path.{_≡_}
-use native.Mathlib.Omega.{arith}
 use borrow.Author.Needs.{needs}
 use Rattle.relations.specs.Trees.{countBelow}
 use Rattle.relations.proofs.Turns.{few-sets, subqueries-more, subqueries-done}
@@ -24,7 +23,7 @@ count-subqueries-spec =
     (λ c. search needs)
     (λ c κs. search needs)
     (λ c. (search needs, (search (needs, few-sets), (search needs, search needs))))
-    (λ c κs. ((search needs, search needs, search needs), (search needs, search needs)))
+    (λ c κs. (record { few = search needs; first-long = search needs; second-long = search needs; tree = search needs }, search needs))
     (λ c κs. search needs)
     (λ c. search needs)
     (λ c. search needs)

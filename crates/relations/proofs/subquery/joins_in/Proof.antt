@@ -1,6 +1,6 @@
 -- The loop has counted the joins below e that lie in the set.
 use native.Mathlib.Omega.{arith}
-use Prim.Native.Nat.{ℕ, _-_, _≤_, _<_}
+use Prim.Native.Nat.{_-_, _≤_}
 use mathlib.Core.Path.{_≡_}
 use borrow.Author.Needs.{needs}
 use Rattle.relations.specs.Trees.{joinsIn}

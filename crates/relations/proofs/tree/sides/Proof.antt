@@ -1,5 +1,5 @@
 -- The loop has stored the side of every join below e.
-use Prim.Native.Nat.{ℕ, _-_, _≤_, _<_}
+use Prim.Native.Nat.{_-_, _≤_}
 use mathlib.Core.Path.{refl}
 use borrow.Author.Count.{below-none}
 use borrow.Author.Needs.{needs}
