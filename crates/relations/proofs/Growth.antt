@@ -30,7 +30,9 @@ module _ (J : Joins) (S x : ℕ) where
       go true h later = absurd (never-both true refl h)
       go false h later = later
 
-  pub step-at : (A m e i : ℕ) → e ≤ i → i < e + m → ((j : ℕ) → e ≤ j → j < i → leads J S x A j ≡ false) → leads J S x A i ≡ true → step J S x A m e ≡ along J A i
+  pub step-at :
+      (A m e i : ℕ) → e ≤ i → i < e + m → ((j : ℕ) → e ≤ j → j < i → leads J S x A j ≡ false) → leads J S x A i ≡ true
+      → step J S x A m e ≡ along J A i
   unfolding step
   step-at A zero e i l h none here = omega arith
   step-at A (suc m) e i l h none here =
