@@ -1,3 +1,6 @@
+pub mod Turns
+pub mod Following
+pub mod Drawing
 pub mod Bits
 pub mod Counts
 pub mod Leads
