@@ -1,3 +1,4 @@
 pub mod Prices
 pub mod Valid
 pub mod Linked
+pub mod Indexed

@@ -1,15 +1,17 @@
 -- The prices' limits and laws. Each price is one fixed amount and one rate times a size, and a valid query limits both.
 use Prim.Native.Nat.{ℕ, _+_, _*_, _≤_, zero-le}
-use native.Mathlib.Nat.{mul-le-mul, mul-le-mul-left, add-comm, le-refl}
+use native.Mathlib.Nat.{mul-le-mul, mul-le-mul-left, mul-le-mul-right, add-comm, le-refl}
 use native.Mathlib.Omega.{arith}
 use mathlib.Core.Path.{_≡_, refl}
 use mathlib.Core.Bool.{Bool, true, false}
 use mathlib.Core.Logic.{_⊎_, inl, inr}
 use lib.Dec.{eqb}
+use mir.Syntax.{w64}
+use mir.Val.{Fits}
 use borrow.Author.Tests.{eq-eqb, ne-eqb, eqb-true, eqb-false}
 use Rattle.query.specs.declared.Query.{Query}
 use Rattle.query.specs.Choice.{pick}
-use Rattle.query.specs.Cost.{Cost, none, some}
+use Rattle.query.specs.Cost.{none, some}
 use Rattle.query.specs.Query.{Valid, joinFixed, joinRate, isOpen, lineFixed, lineRate, size}
 use Rattle.query.specs.Prices.{linePrice, carriage, read, reads, joinPrice}
 use Rattle.query.specs.Theorems.{LineMost, JoinMost, ReadsEither}
@@ -17,6 +19,13 @@ use Rattle.query.specs.Theorems.{LineMost, JoinMost, ReadsEither}
 -- A fixed amount and a rate times a size, each up to its limit.
 pub priced-most : (f r x F R X : ℕ) → f ≤ F → r ≤ R → x ≤ X → f + r * x ≤ F + R * X
 priced-most f r x F R X a b c = omega (arith, mul-le-mul b c)
+
+-- A rate up to 1,000 times a size up to 3,000,000,000 fits 64 bits.
+pub product-fits : (r x : ℕ) → r ≤ 1000 → x ≤ 3000000000 → Fits w64 (r * x)
+product-fits r x a b = record { fits = omega (arith, mul-le-mul a b) }
+
+pub product-most : (r x : ℕ) → r ≤ 1000 → r * x ≤ 1000 * x
+product-most r x a = mul-le-mul-right x a
 
 pub line-most : LineMost
 unfolding linePrice lineFixed lineRate size
