@@ -9,7 +9,7 @@ use borrow.Author.Tests.{eqb-true, eqb-false, eq-eqb, ne-eqb, not-true}
 use Rattle.relations.specs.declared.Joins.{Joins}
 use Rattle.relations.specs.Sets.{bit, Sub, put}
 use Rattle.relations.specs.Growth.{first, second, inside, leads, along}
-use Rattle.relations.proofs.Bits.{bit-le, bit-put, sub-single, put-old}
+use Rattle.relations.proofs.Bits.{bit-le, bit-put, bit-pow, sub-single, put-old}
 use Rattle.relations.proofs.Counts.{ones-put}
 
 pub never-both : (t : Bool) → t ≡ true → t ≡ false → ⊥
@@ -79,3 +79,9 @@ ones-along J A e h = go (bit A (first J e)) refl
     go (suc b) p =
         ap (λ (X : ℕ). ones (put X (second J e))) (put-old A (first J e) (omega (arith, bit-le A (first J e))))
         ∙ ones-put A (second J e) (omega arith)
+
+pub along-first : (J : Joins) (A e : ℕ) → bit (along J A e) (first J e) ≡ 1
+along-first J A e = omega (arith, bit-along J A e (first J e), bit-pow (first J e), bit-le A (first J e), bit-le (2 ^ second J e) (first J e))
+
+pub along-second : (J : Joins) (A e : ℕ) → bit (along J A e) (second J e) ≡ 1
+along-second J A e = omega (arith, bit-along J A e (second J e), bit-pow (second J e), bit-le A (second J e), bit-le (2 ^ first J e) (second J e))

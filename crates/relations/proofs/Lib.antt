@@ -2,3 +2,9 @@ pub mod Bits
 pub mod Counts
 pub mod Leads
 pub mod Growth
+pub mod Connected
+pub mod Sums
+pub mod Trees
+pub mod Halves
+pub mod Splits
+pub mod Unions
