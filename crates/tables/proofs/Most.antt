@@ -1,9 +1,8 @@
 -- No figure is above 41,000,025,000,000: k relations take at most k - 1 joins and 2k - 1 sends, each within its limit.
 use Prim.Native.Nat.{ℕ, zero, suc, _+_, _-_, _*_, _≤_, _<_}
 use mathlib.Core.Path.{_≡_, refl, sym, ap, _∙_}
-use mathlib.Core.Bool.{Bool, true, false}
+use mathlib.Core.Bool.{true, false}
 use mathlib.Core.Logic.{_⊎_, inl, inr}
-use mathlib.Core.List.{List}
 use lib.Count.{ones, ones-ones}
 use native.Mathlib.Nat.{eq-or-lt-of-le, le-refl}
 use native.Mathlib.Omega.{arith}
@@ -13,15 +12,14 @@ use Rattle.relations.proofs.Counts.{ones-add, ones-pow}
 use Rattle.query.specs.declared.Query.{Query}
 use Rattle.query.specs.Cost.{some}
 use Rattle.query.specs.Query.{Valid, relationsOf, sitesOf, home, mayJoin, isOpen}
-use Rattle.query.specs.Prices.{linePrice, joinPrice, indexed}
+use Rattle.query.specs.Prices.{joinPrice, indexed}
 use Rattle.query.proofs.Prices.{line-most, join-most, carriage-most}
 use Rattle.rules.specs.declared.Origin.{Origin}
 use Rattle.rules.specs.declared.Origin.the-variants.{Bare, Sent, Joined}
 use Rattle.rules.specs.declared.Held.{Held}
 use Rattle.rules.specs.Machine.{isSent, sentTo, links, spared, joinOf}
-use Rattle.rules.specs.Plans.{AllowedAt}
 use Rattle.rules.proofs.Kept.{bareOf, Keeps, Ends, allowed-ends}
-use Rattle.tables.specs.Tables.{firstPart, otherPart, only, delivered, joined}
+use Rattle.tables.specs.Tables.{firstPart, otherPart, only, delivered}
 use Rattle.tables.specs.Plan.{bestSite, bestJoin}
 use Rattle.tables.specs.Theorems.{PlanMostLaw, MostLaw}
 use Rattle.tables.proofs.Tables.{ones-some, ones-most, BySite, ByJoin, delivered-one, delivered-found, joined-found}
@@ -102,8 +100,8 @@ module _ (q : Query) (v : Valid q) where
           (omega (arith, at-most-sent (a .origin))) (omega (arith, at-most-sent (b .origin)))
           (join-most q v (b .site) (spared q a) (a .set) (spared q b) (b .set)) (ones-add (a .set) (b .set) apart)
 
-pub delivered-most-law : MostLaw
-delivered-most-law q v S t c s e =
+pub delivered-most : MostLaw
+delivered-most q v S t c s e =
     below-nine c (ones S) (omega (arith, ones-most q v S s, v .relations-most)) (delivered-below q v (ones S) S t c s (le-refl _) e)
 
 pub plan-most : PlanMostLaw

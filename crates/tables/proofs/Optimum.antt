@@ -4,9 +4,7 @@ use mathlib.Core.Path.{_≡_, refl}
 use mathlib.Core.List.{List}
 use native.Mathlib.Nat.{add-comm}
 use native.Mathlib.Omega.{arith}
-use Rattle.query.specs.declared.Query.{Query}
-use Rattle.query.specs.Cost.{Cost, none, some, AtMost}
-use Rattle.query.specs.Query.{Valid}
+use Rattle.query.specs.Cost.{Cost, none, some}
 use Rattle.rules.specs.Plans.{AllowedAt}
 use Rattle.tables.specs.Tables.{cheapest}
 use Rattle.tables.specs.Plan.{written}

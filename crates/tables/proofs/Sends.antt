@@ -1,29 +1,28 @@
 -- Written steps that deliver a set at a site: what it means, how a send that is due completes them, and the load of one relation.
 use Prim.Native.Nat.{ℕ, _+_, _*_, _^_, _≤_, _<_}
-use mathlib.Core.Path.{_≡_, refl, sym, ap, subst, _∙_}
-use mathlib.Core.Bool.{Bool, true, false, _&&_}
-use mathlib.Core.Logic.{_⊎_, inl, inr}
+use mathlib.Core.Path.{_≡_, refl, sym, subst, _∙_}
+use mathlib.Core.Bool.{true, false}
+use mathlib.Core.Logic.{inl, inr}
 use mathlib.Core.List.{List, [], _∷_, _++_}
 use lib.Count.{ones}
 use lib.ListN.{length, length-append}
-use lib.Dec.{eqb}
 use native.Mathlib.Nat.{zero-add}
 use native.Mathlib.Omega.{arith}
 use borrow.Author.Tests.{eq-eqb, ne-eqb}
-use Rattle.relations.specs.Sets.{bit, Apart}
+use Rattle.relations.specs.Sets.{Apart}
 use Rattle.relations.specs.Trees.{Subquery}
 use Rattle.relations.proofs.Bits.{bit-pow}
 use Rattle.relations.proofs.Counts.{single-of-ones, lowest-below}
 use Rattle.relations.proofs.Subqueries.{subqueries-law}
 use Rattle.query.specs.declared.Query.{Query}
 use Rattle.query.specs.Cost.{some}
-use Rattle.query.specs.Query.{Valid, relationsOf, sitesOf, home, index, isOpen}
+use Rattle.query.specs.Query.{Valid, relationsOf, sitesOf, home, isOpen}
 use Rattle.query.specs.Prices.{linePrice, carriage, indexed}
 use Rattle.query.proofs.Prices.{Carried, carried}
 use Rattle.rules.specs.declared.Origin.{Origin}
-use Rattle.rules.specs.declared.Origin.the-variants.{Bare, Sent, Joined}
+use Rattle.rules.specs.declared.Origin.the-variants.{Bare, Sent}
 use Rattle.rules.specs.declared.Held.{Held}
-use Rattle.rules.specs.Machine.{Machine, went, charge, isSent, isBare, spared}
+use Rattle.rules.specs.Machine.{Machine, went, charge, isSent, spared}
 use Rattle.rules.specs.Plans.{Step}
 use Rattle.rules.proofs.Runs.{ran, load-goes, send-goes, ran-then, ran-one}
 use Rattle.tables.specs.Tables.{only, delivered}
@@ -76,8 +75,8 @@ module _ (combine : ℕ → ℕ → ℕ) (q : Query) where
         origin = Sent;
         reads = sym unindexed;
         puts = λ m apart.
-          ran-then combine q xs (sendStep t ∷ []) m (record { loaded = m .loaded + S; stack = heldAt S k o x ∷ m .stack }) (puts m apart)
-          ∙ ran-one combine q (sendStep t) (record { loaded = m .loaded + S; stack = heldAt S k o x ∷ m .stack })
+            ran-then combine q xs (sendStep t ∷ []) m (record { loaded = m .loaded + S; stack = heldAt S k o x ∷ m .stack }) (puts m apart)
+            ∙ ran-one combine q (sendStep t) (record { loaded = m .loaded + S; stack = heldAt S k o x ∷ m .stack })
             (record { loaded = m .loaded + S; stack = heldAt S t Sent (x + linePrice q S k t) ∷ m .stack })
             (send-goes combine q t (m .loaded + S) (heldAt S k o x) (m .stack) listed away opened fresh);
         long = omega (arith, length-append xs (sendStep t ∷ []));

@@ -1,13 +1,12 @@
 -- The written plan is allowed and costs the tables' figure: run on any stack that has loaded nothing of it, the steps written for a subquery
 -- put it on top at its table's figure, by recursion on the number of relations.
 use Prim.Native.Nat.{ℕ, zero, suc, _+_, _-_, _*_, _≤_, _<_}
-use mathlib.Core.Path.{_≡_, refl, sym, ap, subst, _∙_}
-use mathlib.Core.Bool.{Bool, true, false, _&&_}
+use mathlib.Core.Path.{_≡_, refl, sym, subst, _∙_}
+use mathlib.Core.Bool.{Bool, true}
 use mathlib.Core.Logic.{_⊎_, inl, inr}
 use mathlib.Core.List.{List, [], _∷_, _++_}
 use lib.Count.{ones, ones-ones}
 use lib.ListN.{length, length-append}
-use lib.Dec.{eqb, leb}
 use native.Mathlib.Nat.{eq-or-lt-of-le}
 use native.Mathlib.Omega.{arith}
 use borrow.Author.Tests.{eq-eqb, ne-eqb, le-leb}
@@ -18,16 +17,17 @@ use Rattle.relations.proofs.Bits.{bit-add, bit-none, bit-le}
 use Rattle.relations.proofs.Subqueries.{subqueries-law}
 use Rattle.query.specs.declared.Query.{Query}
 use Rattle.query.specs.Cost.{some}
-use Rattle.query.specs.Query.{Valid, relationsOf, sitesOf, home, mayJoin}
+use Rattle.query.specs.Query.{Valid, relationsOf, sitesOf, mayJoin}
 use Rattle.query.specs.Prices.{joinPrice, indexed}
 use Rattle.rules.specs.declared.Origin.the-variants.{Joined}
 use Rattle.rules.specs.declared.Held.{Held}
-use Rattle.rules.specs.Machine.{Machine, start, Outcome, went, charge, links, spared}
-use Rattle.rules.specs.Plans.{Step, stepsOf, accepted, finish, run, checked}
-use Rattle.rules.proofs.Runs.{ran, links-of, join-goes, ran-then, ran-one, ran-ends}
-use Rattle.tables.specs.Tables.{firstPart, otherPart, only, delivered, joined, cheapest}
-use Rattle.tables.specs.Plan.{loadStep, joinStep, sendIfDue, bestSite, bestJoin, joinedSteps, deliveredSteps, stepsUpTo, writtenDelivered, writtenSteps, stepBytes, planBytes}
-use Rattle.tables.specs.Theorems.{WrittenAt, WrittenLaw}
+use Rattle.rules.specs.Machine.{Machine, start, Outcome, went, links, spared}
+use Rattle.rules.specs.Plans.{Step, stepsOf, accepted, finish, checked}
+use Rattle.rules.proofs.Links.{links-of}
+use Rattle.rules.proofs.Runs.{join-goes, ran-then, ran-one, ran-ends}
+use Rattle.tables.specs.Tables.{firstPart, otherPart, delivered}
+use Rattle.tables.specs.Plan.{joinStep, sendIfDue, bestSite, bestJoin, joinedSteps, deliveredSteps, stepsUpTo, writtenDelivered, writtenSteps, stepBytes, planBytes}
+use Rattle.tables.specs.Theorems.{WrittenLaw}
 use Rattle.tables.proofs.Tables.{ones-some, ones-most, ByJoin, BySite, joined-found, delivered-found}
 use Rattle.tables.proofs.Sends.{heldAt, Puts, Delivers, more-unindexed, due, delivers-one}
 
@@ -46,7 +46,7 @@ module _ (combine : ℕ → ℕ → ℕ) (q : Query) where
       ran-then combine q xs (ys ++ (joinStep e ∷ [])) m first-on (one .puts m free-first)
       ∙ ran-then combine q ys (joinStep e ∷ []) first-on both-on (other .puts first-on free-second)
       ∙ ran-one combine q (joinStep e) both-on _
-        (join-goes combine q e (m .loaded + P + R) (heldAt P k (one .origin) x) (heldAt R k (other .origin) y) (m .stack) known refl may linked)
+      (join-goes combine q e (m .loaded + P + R) (heldAt P k (one .origin) x) (heldAt R k (other .origin) y) (m .stack) known refl may linked)
       ∙ ends-same k x y P R _ _ _ _ _ _ S (m .stack) (one .reads) (other .reads) whole (omega arith)
     where
       first-on : Machine
@@ -70,7 +70,7 @@ module _ (combine : ℕ → ℕ → ℕ) (q : Query) where
       ((P k x : ℕ) → Subquery (q .joins) (relationsOf q) P → ones P < ones S → k < sitesOf q → delivered combine q P k ≡ some x → Delivers combine q (D P k) P k x) →
       Delivers combine q (joinedSteps combine D q S (bestSite combine q S t) ++ sendIfDue (bestSite combine q S t) t) S t c
   unfolding joinedSteps spared
-  delivers-more v D S t c s more listed e fewer =
+  delivers-more v D S t c s more listed number fewer =
       let k : ℕ = bestSite combine q S t in
       let e : ℕ = bestJoin combine q S k in
       let P : ℕ = firstPart q S e in
@@ -88,7 +88,7 @@ module _ (combine : ℕ → ℕ → ℕ) (q : Query) where
       (λ away. more-unindexed q S t more) listed (site .sum .other-is) (size .0) (size .1))
     where
       site : BySite combine q v S t (bestSite combine q S t) c
-      site = delivered-found combine q v S t c s more e
+      site = delivered-found combine q v S t c s more number
 
       join : ByJoin combine q v S (bestSite combine q S t) (bestJoin combine q S (bestSite combine q S t)) (site .sum .one)
       join = joined-found combine q v S (bestSite combine q S t) (site .sum .one) s (site .sum .one-is)
@@ -100,7 +100,7 @@ module _ (combine : ℕ → ℕ → ℕ) (q : Query) where
       known = omega (arith, join .known, v .tree .joins)
 
       linked : links (q .joins) (bestJoin combine q S (bestSite combine q S t)) (firstPart q S (bestJoin combine q S (bestSite combine q S t)))
-        (otherPart q S (bestJoin combine q S (bestSite combine q S t))) ≡ true
+          (otherPart q S (bestJoin combine q S (bestSite combine q S t))) ≡ true
       linked = links-of (q .joins) _ _ _ (parts .first-in) (parts .second-in)
 
       lengths : (xs ys : List Step) (e p r s : ℕ) → length xs + 2 ≤ 4 * p → length ys + 2 ≤ 4 * r → s ≡ p + r →

@@ -1,8 +1,7 @@
 -- The written plan's own equation. Where the tables have a number, the number of rounds does not matter once it is enough: the best join's
 -- parts have numbers too, and fewer relations.
 use Prim.Native.Nat.{ℕ, zero, suc, _≤_, _<_}
-use mathlib.Core.Path.{_≡_, refl, sym, ap, _∙_}
-use mathlib.Core.Bool.{Bool, true, false}
+use mathlib.Core.Path.{_≡_, sym, ap}
 use mathlib.Core.Logic.{_⊎_, inl, inr}
 use mathlib.Core.List.{List, _++_}
 use lib.Count.{ones}
@@ -32,8 +31,10 @@ module _ (combine : ℕ → ℕ → ℕ) (q : Query) (v : Valid q) where
       let e : ℕ = bestJoin combine q S k in
       let join : ByJoin combine q v S k e c = joined-found combine q v S k c s number in
       let parts : Split (q .joins) (relationsOf q) S e = join .parts in
-      rw (same (firstPart q S e) (join .one) (parts .first-part) (parts .first-fewer) (join .one-is),
-      same (otherPart q S e) (join .other) (parts .second-part) (parts .second-fewer) (join .other-is))
+      rw (
+        same (firstPart q S e) (join .one) (parts .first-part) (parts .first-fewer) (join .one-is),
+        same (otherPart q S e) (join .other) (parts .second-part) (parts .second-fewer) (join .other-is),
+      )
 
   delivered-steps-same : (D E : ℕ → ℕ → List Step) (S t c : ℕ) → Subquery (q .joins) (relationsOf q) S → delivered combine q S t ≡ some c →
       ((k : ℕ) → SameBelow D E S k) → deliveredSteps combine (joinedSteps combine D q S) q S t ≡ deliveredSteps combine (joinedSteps combine E q S) q S t
