@@ -1,6 +1,6 @@
 -- No figure is above 41,000,025,000,000: k relations take at most k - 1 joins and 2k - 1 sends, each within its limit.
 use Prim.Native.Nat.{ℕ, zero, suc, _+_, _-_, _*_, _≤_, _<_}
-use mathlib.Core.Path.{_≡_, refl, sym, ap, _∙_}
+use mathlib.Core.Path.{_≡_, refl, sym, ap, subst, _∙_}
 use mathlib.Core.Bool.{true, false}
 use mathlib.Core.Logic.{_⊎_, inl, inr}
 use lib.Count.{ones, ones-ones}
@@ -19,61 +19,71 @@ use Rattle.rules.specs.declared.Origin.the-variants.{Bare, Sent, Joined}
 use Rattle.rules.specs.declared.Held.{Held}
 use Rattle.rules.specs.Machine.{isSent, sentTo, links, spared, joinOf}
 use Rattle.rules.proofs.Kept.{bareOf, Keeps, Ends, allowed-ends}
-use Rattle.tables.specs.Tables.{firstPart, otherPart, only, delivered}
+use Rattle.tables.specs.Tables.{firstPart, otherPart, only, delivered, joined}
 use Rattle.tables.specs.Plan.{bestSite, bestJoin}
 use Rattle.tables.specs.Theorems.{PlanMostLaw, MostLaw}
 use Rattle.tables.proofs.Tables.{ones-some, ones-most, BySite, ByJoin, delivered-one, delivered-found, joined-found}
 
--- A figure of k relations, y above what their joins and sends before the last may take: 3,000,001,000,000 a join and twice
--- 1,000,001,000,000 for sends make 5,000,003,000,000 for each relation but one.
+-- The limits of a send's and of a join's price. Each relation but one takes at most one join and two sends, and there may be a last send.
+abbrev sendLimit : ℕ
+sendLimit = 1_000_001_000_000
+
+abbrev joinLimit : ℕ
+joinLimit = 3_000_001_000_000
+
+-- c is a figure of k relations with at most y beyond that, said without a difference.
 abbrev Below : ℕ → ℕ → ℕ → Type 0
-Below c k y = c + 5_000_003_000_000 ≤ k * 5_000_003_000_000 + y
+Below c k y = c + (joinLimit + 2 * sendLimit) ≤ k * (joinLimit + 2 * sendLimit) + y
 
 -- Two results, each perhaps sent, and their join.
-below-join : (a b c j k p : ℕ) → Below a j 1_000_001_000_000 → Below b k 1_000_001_000_000 → p ≤ 3_000_001_000_000 → c ≡ j + k → Below (a + b + p) c 0
-below-join a b c j k p one other price sum = omega arith
+below-join : (a b j k p s : ℕ) → Below a j sendLimit → Below b k sendLimit → p ≤ joinLimit → s ≡ j + k → Below (a + b + p) s 0
+below-join a b j k p s one other price sum = omega arith
 
-below-nine : (c k : ℕ) → k ≤ 9 → Below c k 1_000_001_000_000 → c ≤ 41_000_025_000_000
+below-nine : (c k : ℕ) → k ≤ 9 → Below c k sendLimit → c ≤ 41_000_025_000_000
 below-nine c k nine h = omega arith
 
 module _ (q : Query) (v : Valid q) where
-  delivered-below : (f S t c : ℕ) → Subquery (q .joins) (relationsOf q) S → ones S ≤ f → delivered _+_ q S t ≡ some c → Below c (ones S) 1_000_001_000_000
-  delivered-below zero S t c s l e = absurd (omega (arith, ones-some q v S s))
-  delivered-below (suc f) S t c s l e =
+  -- Every number of Delivered for fewer relations than S has is below.
+  abbrev FewerBelow : ℕ → Type 0
+  FewerBelow S =
+      (P k x : ℕ) → Subquery (q .joins) (relationsOf q) P → ones P < ones S → delivered _+_ q P k ≡ some x → Below x (ones P) sendLimit
+
+  joined-below : (S k c : ℕ) → Subquery (q .joins) (relationsOf q) S → joined _+_ q S k ≡ some c → FewerBelow S → Below c (ones S) 0
+  joined-below S k c s number fewer =
+      let e : ℕ = bestJoin _+_ q S k in
+      let join : ByJoin _+_ q v S k e c = joined-found _+_ q v S k c s number in
+      let P : ℕ = firstPart q S e in
+      let R : ℕ = otherPart q S e in
+      let price : ℕ = joinPrice q k (indexed q P k) P (indexed q R k) R in
+      subst (λ (z : ℕ). Below z (ones S) 0) (sym (join .made))
+      (below-join (join .one) (join .other) (ones P) (ones R) price (ones S)
+      (fewer P k (join .one) (join .parts .first-part) (join .parts .first-fewer) (join .one-is))
+      (fewer R k (join .other) (join .parts .second-part) (join .parts .second-fewer) (join .other-is))
+      (join-most q v k (indexed q P k) P (indexed q R k) R) (join .parts .count))
+
+  delivered-below : (f S t c : ℕ) → Subquery (q .joins) (relationsOf q) S → ones S ≤ f → delivered _+_ q S t ≡ some c → Below c (ones S) sendLimit
+  delivered-below zero S t c s l number = absurd (omega (arith, ones-some q v S s))
+  delivered-below (suc f) S t c s l number =
       go (eq-or-lt-of-le (ones-some q v S s)) (λ P k x p fewer h. delivered-below f P k x p (omega arith) h)
     where
-      go : (1 ≡ ones S) ⊎ (1 < ones S) →
-          ((P k x : ℕ) → Subquery (q .joins) (relationsOf q) P → ones P < ones S → delivered _+_ q P k ≡ some x → Below x (ones P) 1_000_001_000_000) →
-          Below c (ones S) 1_000_001_000_000
+      go : (1 ≡ ones S) ⊎ (1 < ones S) → FewerBelow S → Below c (ones S) sendLimit
       go (inl one) fewer =
-          omega (arith, carriage-most q v S (home q (only q S)) t c (sym (delivered-one _+_ q v S t s (sym one)) ∙ e))
+          omega (arith, carriage-most q v S (home q (only q S)) t c (sym (delivered-one _+_ q v S t s (sym one)) ∙ number))
       go (inr more) fewer =
           let k : ℕ = bestSite _+_ q S t in
-          let i : ℕ = bestJoin _+_ q S k in
-          let site : BySite _+_ q v S t k c = delivered-found _+_ q v S t c s more e in
-          let join : ByJoin _+_ q v S k i (site .sum .one) = joined-found _+_ q v S k (site .sum .one) s (site .sum .one-is) in
-          let P : ℕ = firstPart q S i in
-          let R : ℕ = otherPart q S i in
-          sums (join .one) (join .other) (joinPrice q k (indexed q P k) P (indexed q R k) R) (site .sum .one) (site .sum .other) (ones P) (ones R)
-          (fewer P k (join .one) (join .parts .first-part) (join .parts .first-fewer) (join .one-is))
-          (fewer R k (join .other) (join .parts .second-part) (join .parts .second-fewer) (join .other-is))
-          (join-most q v k (indexed q P k) P (indexed q R k) R) (join .parts .count) (join .made) (site .sum .made)
-          (carriage-most q v S k t (site .sum .other) (site .sum .other-is))
-        where
-          sums : (a b p x y j k : ℕ) → Below a j 1_000_001_000_000 → Below b k 1_000_001_000_000 → p ≤ 3_000_001_000_000 → ones S ≡ j + k → x ≡ a + b + p →
-              c ≡ x + y → y ≤ 1_000_001_000_000 → Below c (ones S) 1_000_001_000_000
-          sums a b p x y j k one other price count made sum line = omega (arith, below-join a b (ones S) j k p one other price count)
+          let site : BySite _+_ q v S t k c = delivered-found _+_ q v S t c s more number in
+          omega (arith, joined-below S k (site .sum .one) s (site .sum .one-is) fewer, site .sum .made, carriage-most q v S k t (site .sum .other) (site .sum .other-is))
 
   -- What a held result's figure may be: a send more where it was sent.
   abbrev sendMost : Origin → ℕ
   sendMost Bare = 0
-  sendMost Sent = 1_000_001_000_000
+  sendMost Sent = sendLimit
   sendMost Joined = 0
 
   abbrev Limited : Held → Type 0
   Limited h = Below (h .figure .0) (ones (h .set)) (sendMost (h .origin))
 
-  at-most-sent : (o : Origin) → sendMost o ≤ 1_000_001_000_000
+  at-most-sent : (o : Origin) → sendMost o ≤ sendLimit
   at-most-sent Bare = omega arith
   at-most-sent Sent = le-refl _
   at-most-sent Joined = omega arith
@@ -96,13 +106,20 @@ module _ (q : Query) (v : Valid q) where
           links (q .joins) e (a .set) (b .set) ≡ true → Limited (joinOf _+_ q a b)
       made e a b fa fb apart known there may linked =
           let price : ℕ = joinPrice q (b .site) (spared q a) (a .set) (spared q b) (b .set) in
-          below-join (a .figure .0) (b .figure .0) (ones (a .set + b .set)) (ones (a .set)) (ones (b .set)) price
+          below-join (a .figure .0) (b .figure .0) (ones (a .set)) (ones (b .set)) price (ones (a .set + b .set))
           (omega (arith, at-most-sent (a .origin))) (omega (arith, at-most-sent (b .origin)))
           (join-most q v (b .site) (spared q a) (a .set) (spared q b) (b .set)) (ones-add (a .set) (b .set) apart)
 
 pub delivered-most : MostLaw
 delivered-most q v S t c s e =
     below-nine c (ones S) (omega (arith, ones-most q v S s, v .relations-most)) (delivered-below q v (ones S) S t c s (le-refl _) e)
+
+-- Nor is Joined's.
+pub joined-most : (q : Query) → Valid q → (S k c : ℕ) → Subquery (q .joins) (relationsOf q) S → joined _+_ q S k ≡ some c → c ≤ 41_000_025_000_000
+joined-most q v S k c s number =
+    let most = ones-most q v S s in
+    let below = joined-below q v S k c s number (λ P i x p fewer h. delivered-below q v (ones P) P i x p (le-refl _) h) in
+    below-nine c (ones S) (omega (arith, v .relations-most)) (omega arith)
 
 pub plan-most : PlanMostLaw
 plan-most q v plan c allowed =
