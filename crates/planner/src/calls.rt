@@ -74,7 +74,6 @@ pub fn load(p: Planner, file: &[u8]) -> AfterLoad
     }
 }
 
-
 // Link: replaces the line from the sender to the receiver and drops the kept plan.
 pub fn link(p: Planner, sender: u64, receiver: u64, opened: u64, fixed: u64, rate: u64) -> AfterLink
     requires { ⌜ Sound p ⌝ }
@@ -82,8 +81,7 @@ pub fn link(p: Planner, sender: u64, receiver: u64, opened: u64, fixed: u64, rat
     ensures next { λ r. ⌜ stateOf (r .planner) ≡ link (linkOf sender receiver opened fixed rate) (stateOf p) .next ⌝ }
     ensures sound { λ r. ⌜ Sound (r .planner) ⌝ }
 {
-    if p.loaded {
-    } else {
+    if p.loaded {} else {
         return AfterLink {
             answer: LinkAnswer::Refused(20),
             planner: p,
@@ -92,22 +90,40 @@ pub fn link(p: Planner, sender: u64, receiver: u64, opened: u64, fixed: u64, rat
     let q = p.query;
     let s = q.sites.count as u64;
     if s <= sender {
-        return AfterLink { answer: LinkAnswer::Refused(6), planner: p };
+        return AfterLink {
+            answer: LinkAnswer::Refused(6),
+            planner: p,
+        };
     }
     if s <= receiver {
-        return AfterLink { answer: LinkAnswer::Refused(6), planner: p };
+        return AfterLink {
+            answer: LinkAnswer::Refused(6),
+            planner: p,
+        };
     }
     if sender == receiver {
-        return AfterLink { answer: LinkAnswer::Refused(6), planner: p };
+        return AfterLink {
+            answer: LinkAnswer::Refused(6),
+            planner: p,
+        };
     }
     if 1 < opened {
-        return AfterLink { answer: LinkAnswer::Refused(3), planner: p };
+        return AfterLink {
+            answer: LinkAnswer::Refused(3),
+            planner: p,
+        };
     }
     if 1000000 < fixed {
-        return AfterLink { answer: LinkAnswer::Refused(3), planner: p };
+        return AfterLink {
+            answer: LinkAnswer::Refused(3),
+            planner: p,
+        };
     }
     if 1000 < rate {
-        return AfterLink { answer: LinkAnswer::Refused(3), planner: p };
+        return AfterLink {
+            answer: LinkAnswer::Refused(3),
+            planner: p,
+        };
     }
     let at = 8 * (sender as usize) + (receiver as usize);
     let mut lines = q.lines;
@@ -133,8 +149,7 @@ pub fn solve(p: Planner, cells: &mut [u64]) -> AfterSolve
     ensures later { λ r. ⌜ drop 4096 (now (cells .exit)) ≡ drop 4096 (now (cells .entry)) ⌝ }
     ensures refused { λ r. ⌜ (solveAdmitted (stateOf p .query) (length (now (cells .entry))) ≡ false → now (cells .exit) ≡ now (cells .entry)) ⌝ }
 {
-    if p.loaded {
-    } else {
+    if p.loaded {} else {
         return AfterSolve {
             answer: SolveAnswer::Refused(20),
             planner: p,
@@ -177,12 +192,10 @@ pub fn read(p: Planner, output: &mut [u8]) -> ReadAnswer
     ensures answer { λ r. ⌜ ofRead r ≡ read (now (output .entry)) (stateOf p) .answer ⌝ }
     ensures output { λ r. ⌜ now (output .exit) ≡ read (now (output .entry)) (stateOf p) .output ⌝ }
 {
-    if p.loaded {
-    } else {
+    if p.loaded {} else {
         return ReadAnswer::Refused(20);
     }
-    if p.kept {
-    } else {
+    if p.kept {} else {
         return ReadAnswer::Refused(22);
     }
     let length = p.length;
@@ -202,9 +215,11 @@ pub fn check(p: Planner, plan: &[u8]) -> CheckAnswer
     requires { ⌜ Sound p ⌝ }
     ensures { λ r. ⌜ ofCheck r ≡ check (now (plan .entry)) (stateOf p) ⌝ }
 {
-    if p.loaded {
-    } else {
-        return CheckAnswer::Refused { number: 20, place: 0 };
+    if p.loaded {} else {
+        return CheckAnswer::Refused {
+            number: 20,
+            place: 0,
+        };
     }
     let c = rules::check(p.query, plan);
     match c {
