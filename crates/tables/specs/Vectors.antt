@@ -56,8 +56,6 @@ vectors =
     }
     -- Join 0, the lowest, is the last; of join 1, relation 2, its first, is written first.
     ∷ record { query = evenChain; cost = 10; trials = 4; plan = 5 ∷ 1 ∷ 0 ∷ 1 ∷ 2 ∷ 1 ∷ 1 ∷ 3 ∷ 1 ∷ 3 ∷ 0 ∷ [] }
-    -- Two pairs are joined: no operand of the last join is a single relation.
-    ∷ record { query = twoPairs; cost = 15; trials = 10; plan = 7 ∷ 1 ∷ 0 ∷ 1 ∷ 1 ∷ 3 ∷ 0 ∷ 1 ∷ 2 ∷ 1 ∷ 3 ∷ 3 ∷ 2 ∷ 3 ∷ 1 ∷ [] }
     -- Relation 0 has its index but is sent to site 1, so it is read.
     ∷ record {
       query = withIndex (1 ∷ []) (withMay (0 ∷ 1 ∷ 1 ∷ []) Q);
@@ -65,6 +63,8 @@ vectors =
       trials = 3;
       plan = 5 ∷ 1 ∷ 0 ∷ 2 ∷ 1 ∷ 1 ∷ 1 ∷ 3 ∷ 0 ∷ 2 ∷ 0 ∷ [];
     }
+    -- Two pairs are joined: no operand of the last join is a single relation.
+    ∷ record { query = twoPairs; cost = 15; trials = 10; plan = 7 ∷ 1 ∷ 0 ∷ 1 ∷ 1 ∷ 3 ∷ 0 ∷ 1 ∷ 2 ∷ 1 ∷ 3 ∷ 3 ∷ 2 ∷ 3 ∷ 1 ∷ [] }
     ∷ []
 
 abbrev pub sameBytes : List ℕ → List ℕ → Bool
