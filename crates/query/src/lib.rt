@@ -1,4 +1,11 @@
 // The query, its file and its prices.
+mod fields;
+mod items;
+mod sections;
+
+pub use fields::part_from;
+pub use sections::Outcome;
+
 use relations::Joins;
 
 // A count of bytes. Only a rate turns it into charge units.

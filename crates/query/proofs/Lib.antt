@@ -1,0 +1,5 @@
+pub mod Parts
+pub mod Reading
+pub mod TermsTwo
+pub mod Loops
+pub mod SectionLaws
