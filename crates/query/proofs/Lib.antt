@@ -3,3 +3,4 @@ pub mod Reading
 pub mod TermsTwo
 pub mod Loops
 pub mod SectionLaws
+pub mod LineLaws

@@ -102,10 +102,6 @@ module _ (w fault low high v : ℕ) (l : List ℕ) (f : Field) (e : f ≡ fieldO
   pub field-most : v ≤ high
   field-most = field-held w fault low high v l _ (field-value w fault low high v l f e h) .high-most
 
--- A refused field ends the reading that starts with it.
-pub section-no : {A : Type 0} (x : Read ℕ) (next : ℕ → List ℕ → Read A) (n k : ℕ) (f : Field) → n ≡ faultOf f → f ≡ Refused k → f ≡ fieldOf x → refused n ≡ andThen x next
-section-no x next n k f e h g = rw (field-no x n k f e h g)
-
 -- A reading after another: by what the first one gave, and back.
 module _ {A B : Type 0} (x : Read A) (next : A → List ℕ → Read B) where
   pub then-no : (k : ℕ) → x ≡ refused k → andThen x next ≡ refused k

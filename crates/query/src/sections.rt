@@ -208,7 +208,7 @@ pub fn read_joins(part: &[u8], n: usize) -> JoinsRead
 // The lines of sender a to each receiver of s sites but itself: open flag, fixed amount, rate.
 fn read_sender(part: &[u8], s: usize, a: usize, kept: Lines) -> LinesRead
     requires { ⌜ (s ≤ 8) × (a < 8) ⌝ }
-    ensures { λ r. ⌜ readOf (r .outcome) (r .lines) (r .used) (now (part .entry)) ≡ sender s a kept (now (part .entry)) ⌝ }
+    ensures { λ r. ⌜ (readOf (r .outcome) (r .lines) (r .used) (now (part .entry)) ≡ sender s a kept (now (part .entry))) × (r .used ≤ 72) ⌝ }
 {
     let mut lines = kept;
     let mut at = 0;

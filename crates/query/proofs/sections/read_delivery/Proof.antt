@@ -1,3 +1,4 @@
+use Rattle.query.proofs.SectionLaws.{of-delivery}
 use borrow.Author.Needs.{needs}
 use Rattle.query.proofs.sections.read_delivery.Statement.{statement}
 use Rattle.query.proofs.sections.read_delivery.Tie as tie
@@ -25,7 +26,7 @@ fault-requires c κs = search needs
 
 -- src/sections.rt:283:9
 returns : tie.Need-returns
-returns c = ?
+returns c = search (needs, of-delivery)
 
 -- src/sections.rt:289:24
 part-from-requires : tie.Need-part-from-requires
@@ -49,11 +50,11 @@ fault-requires-2 c κs = search needs
 
 -- src/sections.rt:291:9
 returns-2 : tie.Need-returns-2
-returns-2 c = ?
+returns-2 c = search (needs, of-delivery)
 
 -- src/sections.rt:277:1
 returns-3 : tie.Need-returns-3
-returns-3 c = ?
+returns-3 c = search (needs, of-delivery)
 
 pub read-delivery-spec : {M : Type 1} → statement M
 read-delivery-spec =
