@@ -2,9 +2,14 @@
 mod fields;
 mod items;
 mod sections;
+mod sizes;
+mod decoding;
 
 pub use fields::part_from;
 pub use sections::Outcome;
+pub use decoding::Decoded;
+pub use decoding::decode;
+pub use decoding::no_query;
 
 use relations::Joins;
 

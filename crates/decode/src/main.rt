@@ -1,0 +1,120 @@
+// Decodes query files from standard input, each after its length in two bytes, little-endian, and prints what each holds.
+use libc::STDIN_FILENO;
+use libc::STDOUT_FILENO;
+use query::Lines;
+use query::Outcome;
+use query::Query;
+use query::Relations;
+use query::Sites;
+use query::decode;
+use query::part_from;
+use relations::Joins;
+
+// A number after a space.
+fn number(n: u64) {
+    io::write_all(STDOUT_FILENO, b" ");
+    io::print_decimal(STDOUT_FILENO, n);
+}
+
+fn end_line() {
+    io::write_all(STDOUT_FILENO, b"\n");
+}
+
+// A line of a word and the first numbers of a list.
+fn numbers(word: &[u8], list: &[u64], count: usize) {
+    io::write_all(STDOUT_FILENO, word);
+    let mut i = 0;
+    while i < count {
+        if i < list.len() {
+            number(list[i]);
+        }
+        i += 1;
+    }
+    end_line();
+}
+
+// The same for a list of places.
+fn places(word: &[u8], list: &[usize], count: usize) {
+    io::write_all(STDOUT_FILENO, word);
+    let mut i = 0;
+    while i < count {
+        if i < list.len() {
+            number(list[i] as u64);
+        }
+        i += 1;
+    }
+    end_line();
+}
+
+// Each size with its subquery's number; a size of 0 is left out.
+fn sizes(list: &[u64]) {
+    let mut i = 0;
+    while i < list.len() {
+        if 0 < list[i] {
+            io::write_all(STDOUT_FILENO, b"size");
+            number(i as u64);
+            number(list[i]);
+            end_line();
+        }
+        i += 1;
+    }
+}
+
+fn show(q: Query, subqueries: usize) {
+    let sites: Sites = q.sites;
+    let s = sites.count;
+    numbers(b"may", &sites.may, s);
+    numbers(b"fixed", &sites.fixed, s);
+    numbers(b"rate", &sites.rate, s);
+    let relations: Relations = q.relations;
+    let n = relations.count;
+    places(b"home", &relations.home, n);
+    numbers(b"index", &relations.index, n);
+    let joins: Joins = q.joins;
+    places(b"first", &joins.first, joins.count);
+    places(b"second", &joins.second, joins.count);
+    io::write_all(STDOUT_FILENO, b"subqueries");
+    number(subqueries as u64);
+    end_line();
+    sizes(&q.sizes);
+    let lines: Lines = q.lines;
+    numbers(b"open", &lines.flag, 8 * s);
+    numbers(b"line fixed", &lines.fixed, 8 * s);
+    numbers(b"line rate", &lines.rate, 8 * s);
+    io::write_all(STDOUT_FILENO, b"target");
+    number(q.target as u64);
+    end_line();
+}
+
+fn report(file: &[u8]) {
+    let d = decode(file);
+    let o = d.outcome;
+    match o {
+        Outcome::Whole => show(d.query, d.subqueries),
+        Outcome::Refused(k) => {
+            io::write_all(STDOUT_FILENO, b"refused");
+            number(k);
+            end_line();
+        }
+    }
+}
+
+fn all(input: &[u8]) {
+    let mut at = 0;
+    while at + 2 <= input.len() {
+        let n = input[at] as usize + 256 * input[at + 1] as usize;
+        at += 2;
+        let part = part_from(input, at);
+        if part.len() < n {
+            return;
+        }
+        report(&part[..n]);
+        at += n;
+    }
+}
+
+fn main() {
+    let mut buffer = io::large_buffer();
+    let n = io::read_full(STDIN_FILENO, &mut buffer);
+    all(&buffer[..n]);
+}
