@@ -4,3 +4,4 @@ pub mod TermsTwo
 pub mod Loops
 pub mod SectionLaws
 pub mod LineLaws
+pub mod SizeLaws
