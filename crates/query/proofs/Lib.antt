@@ -5,3 +5,5 @@ pub mod Loops
 pub mod SectionLaws
 pub mod LineLaws
 pub mod SizeLaws
+pub mod Kept
+pub mod FileLaws
