@@ -1,4 +1,6 @@
 // Decodes query files from standard input, each after its length in two bytes, little-endian, and prints what each holds.
+ghost use Prim.Native.Nat.{_≤_, _<_};
+ghost use lib.ListN.{length};
 use libc::STDIN_FILENO;
 use libc::STDOUT_FILENO;
 use query::Lines;
@@ -7,7 +9,6 @@ use query::Query;
 use query::Relations;
 use query::Sites;
 use query::decode;
-use query::part_from;
 use relations::Joins;
 
 // A number after a space.
@@ -24,10 +25,8 @@ fn end_line() {
 fn numbers(word: &[u8], list: &[u64], count: usize) {
     io::write_all(STDOUT_FILENO, word);
     let mut i = 0;
-    while i < count {
-        if i < list.len() {
-            number(list[i]);
-        }
+    while i < count && i < list.len() {
+        number(list[i]);
         i += 1;
     }
     end_line();
@@ -37,27 +36,35 @@ fn numbers(word: &[u8], list: &[u64], count: usize) {
 fn places(word: &[u8], list: &[usize], count: usize) {
     io::write_all(STDOUT_FILENO, word);
     let mut i = 0;
-    while i < count {
-        if i < list.len() {
-            number(list[i] as u64);
-        }
+    while i < count && i < list.len() {
+        number(list[i] as u64);
         i += 1;
     }
     end_line();
 }
 
-// Each size with its subquery's number; a size of 0 is left out.
+// A size with its subquery's number; a size of 0 is left out.
+fn size(subquery: usize, bytes: u64) {
+    if bytes == 0 {
+        return;
+    }
+    io::write_all(STDOUT_FILENO, b"size");
+    number(subquery as u64);
+    number(bytes);
+    end_line();
+}
+
 fn sizes(list: &[u64]) {
     let mut i = 0;
     while i < list.len() {
-        if 0 < list[i] {
-            io::write_all(STDOUT_FILENO, b"size");
-            number(i as u64);
-            number(list[i]);
-            end_line();
-        }
+        size(i, list[i]);
         i += 1;
     }
+}
+
+// How many places the lines of s senders take.
+fn line_places(s: usize) -> usize {
+    if s < 8 { 8 * s } else { 64 }
 }
 
 fn show(q: Query, subqueries: usize) {
@@ -78,9 +85,10 @@ fn show(q: Query, subqueries: usize) {
     end_line();
     sizes(&q.sizes);
     let lines: Lines = q.lines;
-    numbers(b"open", &lines.flag, 8 * s);
-    numbers(b"line fixed", &lines.fixed, 8 * s);
-    numbers(b"line rate", &lines.rate, 8 * s);
+    let m = line_places(s);
+    numbers(b"open", &lines.flag, m);
+    numbers(b"line fixed", &lines.fixed, m);
+    numbers(b"line rate", &lines.rate, m);
     io::write_all(STDOUT_FILENO, b"target");
     number(q.target as u64);
     end_line();
@@ -99,17 +107,35 @@ fn report(file: &[u8]) {
     }
 }
 
+fn wide(x: u8) -> usize
+    ensures { λ r. ⌜ r < 256 ⌝ }
+{
+    x as usize
+}
+
+// Reports the first file of the input, and answers how many bytes it took with its length: 0 at the end of the input.
+fn first(input: &[u8]) -> usize
+    ensures { λ r. ⌜ r ≤ length (now (input .entry)) ⌝ }
+{
+    if input.len() < 2 {
+        return 0;
+    }
+    let n = wide(input[0]) + 256 * wide(input[1]) + 2;
+    if input.len() < n {
+        return 0;
+    }
+    report(&input[2..n]);
+    n
+}
+
 fn all(input: &[u8]) {
     let mut at = 0;
-    while at + 2 <= input.len() {
-        let n = input[at] as usize + 256 * input[at + 1] as usize;
-        at += 2;
-        let part = part_from(input, at);
-        if part.len() < n {
+    while at < input.len() {
+        let used = first(&input[at..]);
+        if used == 0 {
             return;
         }
-        report(&part[..n]);
-        at += n;
+        at += used;
     }
 }
 

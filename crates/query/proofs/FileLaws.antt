@@ -83,7 +83,7 @@ module _ (file : List ℕ) (d : Decoded) (n : ℕ) where
     module _ (q : List ℕ) (a : Relations) where
       pub joins-fail :
           d ≡ decodedOf (refused n) → sitesSection file ≡ value s p → relationsSection (s .count) p ≡ value a q → joinsSection (a .count) q ≡ refused n →
-            d ≡ decodedOf (decode file)
+          d ≡ decodedOf (decode file)
       unfolding decode
       joins-fail e x y z = rw (x, y, z) e
 
@@ -122,6 +122,6 @@ module _ (file : List ℕ) (p q r : List ℕ) (s : Sites) (a : Relations) (J : J
 
           pub all-read :
               (k : ℕ) → k ≡ subqueries J (J .count + 1) → length o ≡ 0 →
-                record { outcome = Whole; query = record { sites = s; relations = a; joins = J; sizes = m; lines = ls; target = c }; subqueries = k } ≡ decodedOf (decode file)
+              record { outcome = Whole; query = record { sites = s; relations = a; joins = J; sizes = m; lines = ls; target = c }; subqueries = k } ≡ decodedOf (decode file)
           unfolding decode
           all-read k f j = rw (x, y, z, test, h, ← relations-are, w, g, i, eq-eqb (length o) 0 j, f)

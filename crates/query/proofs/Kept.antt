@@ -32,14 +32,14 @@ set-up-to k (x ∷ l) (suc i) v h p (suc j) = set-up-to k l i v h (λ m. p (suc 
 -- Items that read one thing each and store it keep what each store keeps.
 pub stored-keep :
     {A T : Type 0} (read : List ℕ → Read T) (store : ℕ → A → T → A) (P : A → Type 0) →
-      ((i : ℕ) (a : A) (t : T) (l r : List ℕ) → read l ≡ value t r → P a → P (store i a t)) → (k i : ℕ) (a : A) (l : List ℕ) (b : A) (r : List ℕ) →
-        items (λ i a l. andThen (read l) (λ t r. value (store i a t) r)) k i a l ≡ value b r → P a → P b
+    ((i : ℕ) (a : A) (t : T) (l r : List ℕ) → read l ≡ value t r → P a → P (store i a t)) → (k i : ℕ) (a : A) (l : List ℕ) (b : A) (r : List ℕ) →
+    items (λ i a l. andThen (read l) (λ t r. value (store i a t) r)) k i a l ≡ value b r → P a → P b
 stored-keep read store P one k i a l b r e p =
     items-keep (λ i a l. andThen (read l) (λ t r. value (store i a t) r)) P
     (λ i a l b r e p.
-      let s : Both (read l) (λ t r. value (store i a t) r) b r = both-read _ _ b r e in
-      let z : store i a (s .a) ≡ b = cc (s .then) in
-      subst P z (one i a (s .a) l (s .mid) (s .first) p))
+    let s : Both (read l) (λ t r. value (store i a t) r) b r = both-read _ _ b r e in
+    let z : store i a (s .a) ≡ b = cc (s .then) in
+    subst P z (one i a (s .a) l (s .mid) (s .first) p))
     k i a l b r e p
 
 -- The two numbers of an item are in range.
@@ -83,8 +83,8 @@ joins-kept n l r J e =
     let m : x .a ≡ n - 1 = omega (arith, h .low-most, h .high-most) in
     stored-keep (two n n) withJoin (JoinsKept n)
     (λ i a t l r e p.
-      let b : (t .one ≤ n - 1) × (t .other ≤ n - 1) = two-held n n l r t e in
-      record { count = p .count; firsts = set-up-to (n - 1) (a .first) i (t .one) (b .0) (p .firsts); seconds = set-up-to (n - 1) (a .second) i (t .other) (b .1) (p .seconds) })
+    let b : (t .one ≤ n - 1) × (t .other ≤ n - 1) = two-held n n l r t e in
+    record { count = p .count; firsts = set-up-to (n - 1) (a .first) i (t .one) (b .0) (p .firsts); seconds = set-up-to (n - 1) (a .second) i (t .other) (b .1) (p .seconds) })
     (x .a) 0 _ (x .mid) J r (x .then) (record { count = m; firsts = zeros-up-to (n - 1) 8; seconds = zeros-up-to (n - 1) 8 })
 
 -- So they can be grown along, and where they reach every relation they make a tree.

@@ -46,12 +46,12 @@ module _ (answer : Read Lines) (a s b at : ℕ) (ls : Lines) (l : List ℕ) wher
   module _ (p : List ℕ) (t : TermsRead) where
     pub line-no :
         (m k : ℕ) → m ≡ termsFault t → t ≡ of-terms.Refused k → t ≡ termsOf (terms p) → p ≡ drop at l → (a ≡ b → ⊥) →
-          answer ≡ items (line a) (s - b) b ls (drop at l) → b < s → refused m ≡ answer
+        answer ≡ items (line a) (s - b) b ls (drop at l) → b < s → refused m ≡ answer
     line-no m k f h e q d so less = stored-no terms (withLine a b) (line a) answer s b at ls l p (other d p) q so less m (terms-no p t m k f h e)
 
     pub line-on :
         (x y z : ℕ) → t ≡ of-terms.Terms x y z → t ≡ termsOf (terms p) → p ≡ drop at l → (a ≡ b → ⊥) → answer ≡ items (line a) (s - b) b ls (drop at l) → b < s →
-          answer ≡ items (line a) (s - (b + 1)) (b + 1) (withLine a b ls (record { flag = x; fixed = y; rate = z })) (drop (at + 9) l)
+        answer ≡ items (line a) (s - (b + 1)) (b + 1) (withLine a b ls (record { flag = x; fixed = y; rate = z })) (drop (at + 9) l)
     line-on x y z h e q d so less =
         stored-on terms (withLine a b) (line a) answer s b at ls l p (other d p) q so less (record { flag = x; fixed = y; rate = z }) 9 (at + 9) refl
         (terms-value p t x y z e h)
@@ -67,27 +67,27 @@ pairs-fit s h =
 -- The senders.
 pub lines-cut :
     (s : ℕ) (l : List ℕ) (f : Field) (n k : ℕ) → n ≡ faultOf f → f ≡ Refused k → f ≡ fieldOf (countField (s * (s - 1)) (s * (s - 1)) l) →
-      refused n ≡ linesSection s l
+    refused n ≡ linesSection s l
 unfolding linesSection
 lines-cut s l f n k e h g = rw (field-no (countField (s * (s - 1)) (s * (s - 1)) l) n k f e h g)
 
 pub lines-start :
     (s : ℕ) (l : List ℕ) (f : Field) (v : ℕ) (ls : Lines) → f ≡ fieldOf (countField (s * (s - 1)) (s * (s - 1)) l) → f ≡ Value v → ls ≡ noLines →
-      linesSection s l ≡ items (sender s) (s - 0) 0 ls (drop 1 l)
+    linesSection s l ≡ items (sender s) (s - 0) 0 ls (drop 1 l)
 unfolding linesSection
 lines-start s l f v ls e h z = rw (field-value 1 2 (s * (s - 1)) (s * (s - 1)) v l f e h, sub-zero, z)
 
 module _ (answer : Read Lines) (s a at used : ℕ) (ls new : Lines) (l p : List ℕ) (o : Outcome) where
   pub sender-no :
       (k : ℕ) → o ≡ outcome.Refused k → readOf o new used p ≡ sender s a ls p → p ≡ drop at l → answer ≡ items (sender s) (s - a) a ls (drop at l) → a < s →
-        readOf o new used l ≡ answer
+      readOf o new used l ≡ answer
   sender-no k h e q so less =
       let f : refused k ≡ sender s a ls p = rw h at e in
       rw h (items-no (sender s) answer s a ls (drop at l) k so less (ap (sender s a ls) (sym q) ∙ sym f))
 
   pub sender-on :
       o ≡ outcome.Whole → readOf o new used p ≡ sender s a ls p → p ≡ drop at l → answer ≡ items (sender s) (s - a) a ls (drop at l) → a < s →
-        answer ≡ items (sender s) (s - (a + 1)) (a + 1) new (drop (at + used) l)
+      answer ≡ items (sender s) (s - (a + 1)) (a + 1) new (drop (at + used) l)
   sender-on h e q so less =
       let f : value new (drop used p) ≡ sender s a ls p = rw h at e in
       let r : drop used p ≡ drop (at + used) l = ap (drop used) q ∙ drop-drop used at l in

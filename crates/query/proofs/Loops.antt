@@ -50,7 +50,7 @@ module _ {A T : Type 0} (read : List ℕ → Read T) (store : A → T → A) (it
 -- What each item keeps of what has been read so far, the items keep.
 pub items-keep :
     {A : Type 0} (item : ℕ → A → List ℕ → Read A) (P : A → Type 0) → ((i : ℕ) (a : A) (l : List ℕ) (b : A) (r : List ℕ) → item i a l ≡ value b r → P a → P b) →
-      (k i : ℕ) (a : A) (l : List ℕ) (b : A) (r : List ℕ) → items item k i a l ≡ value b r → P a → P b
+    (k i : ℕ) (a : A) (l : List ℕ) (b : A) (r : List ℕ) → items item k i a l ≡ value b r → P a → P b
 unfolding items
 items-keep item P one zero i a l b r e p =
     let z : a ≡ b = cc in

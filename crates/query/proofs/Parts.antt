@@ -44,7 +44,6 @@ module _ (w i v : ℕ) (l : List ℕ) where
       let t : getD (drop (i - 1) l) 0 0 ≡ b = getD-drop (i - 1) l 0 0 ∙ ap (λ (n : ℕ). getD l n 0) (add-zero (i - 1)) ∙ sym f in
       rw (p, s, t, ← e) (omega arith)
 
-
 module _ (w i v : ℕ) where
   -- Its bound, and that a number of up to four bytes is small.
   pub number-below : (b : ℕ) → i ≤ w → 0 < i → v < 256 ^ (w - i) → b < 256 → 256 * v + b < 256 ^ (w - (i - 1))

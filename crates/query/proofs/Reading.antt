@@ -61,13 +61,13 @@ unfolding field
 field-held w fault low high v l r =
     pick-all (λ x. x ≡ value v r → Held w low high v l r) (ltb (length l) w) (refused 1) _ (λ t e. absurd (never e))
     (λ t.
-      pick-all (λ x. x ≡ value v r → Held w low high v l r) (leb low (number w l) && leb (number w l) high) (value (number w l) (drop w l)) (refused fault)
-      (λ s e.
-        let n : number w l ≡ v = cc in
-        let m : r ≡ drop w l = cc in
-        let b : (leb low (number w l) ≡ true) × (leb (number w l) high ≡ true) = both-true _ _ s in
-        record { rest = m; low-most = rw n at (leb-true low (number w l) (b .0)); high-most = rw n at (leb-true (number w l) high (b .1)) })
-      (λ s e. absurd (never e)))
+    pick-all (λ x. x ≡ value v r → Held w low high v l r) (leb low (number w l) && leb (number w l) high) (value (number w l) (drop w l)) (refused fault)
+    (λ s e.
+    let n : number w l ≡ v = cc in
+    let m : r ≡ drop w l = cc in
+    let b : (leb low (number w l) ≡ true) × (leb (number w l) high ≡ true) = both-true _ _ s in
+    record { rest = m; low-most = rw n at (leb-true low (number w l) (b .0)); high-most = rw n at (leb-true (number w l) high (b .1)) })
+    (λ s e. absurd (never e)))
 
 -- What is left after a reading.
 abbrev pub left : {A : Type 0} → Read A → List ℕ

@@ -34,13 +34,13 @@ sites-start l f v a e h s = rw (field-value 1 2 1 8 v l f e h, sub-zero, s)
 module _ (answer : Read Sites) (n i : ℕ) (a : Sites) (l p : List ℕ) (t : TermsRead) where
   pub site-no :
       (m k : ℕ) → m ≡ termsFault t → t ≡ of-terms.Refused k → t ≡ termsOf (terms p) → p ≡ drop (1 + 9 * i) l →
-        answer ≡ items site (n - i) i a (drop (1 + 9 * i) l) → i < n → refused m ≡ answer
+      answer ≡ items site (n - i) i a (drop (1 + 9 * i) l) → i < n → refused m ≡ answer
   unfolding site
   site-no m k f h e q so less = stored-no terms (withSite i) site answer n i (1 + 9 * i) a l p refl q so less m (terms-no p t m k f h e)
 
   pub site-on :
       (x y z : ℕ) → t ≡ of-terms.Terms x y z → t ≡ termsOf (terms p) → p ≡ drop (1 + 9 * i) l → answer ≡ items site (n - i) i a (drop (1 + 9 * i) l) → i < n →
-        answer ≡ items site (n - (i + 1)) (i + 1) (withSite i a (record { flag = x; fixed = y; rate = z })) (drop (1 + 9 * (i + 1)) l)
+      answer ≡ items site (n - (i + 1)) (i + 1) (withSite i a (record { flag = x; fixed = y; rate = z })) (drop (1 + 9 * (i + 1)) l)
   unfolding site
   site-on x y z h e q so less =
       stored-on terms (withSite i) site answer n i (1 + 9 * i) a l p refl q so less (record { flag = x; fixed = y; rate = z }) 9 (1 + 9 * (i + 1)) (omega arith)
@@ -59,20 +59,20 @@ relations-cut s l f n k e h g = rw (field-no (countField 1 9 l) n k f e h g)
 
 pub relations-start :
     (s : ℕ) (l : List ℕ) (f : Field) (v : ℕ) (a : Relations) → f ≡ fieldOf (countField 1 9 l) → f ≡ Value v → a ≡ noRelations v →
-      relationsSection s l ≡ items (relation s) (v - 0) 0 a (drop 1 l)
+    relationsSection s l ≡ items (relation s) (v - 0) 0 a (drop 1 l)
 unfolding relationsSection
 relations-start s l f v a e h z = rw (field-value 1 2 1 9 v l f e h, sub-zero, z)
 
 module _ (s : ℕ) (answer : Read Relations) (n i : ℕ) (a : Relations) (l p : List ℕ) (t : TwoRead) where
   pub relation-no :
       (m k : ℕ) → m ≡ twoFault t → t ≡ of-two.Refused k → t ≡ twoOf (two s 2 p) → p ≡ drop (1 + 2 * i) l →
-        answer ≡ items (relation s) (n - i) i a (drop (1 + 2 * i) l) → i < n → refused m ≡ answer
+      answer ≡ items (relation s) (n - i) i a (drop (1 + 2 * i) l) → i < n → refused m ≡ answer
   unfolding relation
   relation-no m k f h e q so less = stored-no (two s 2) (withRelation i) (relation s) answer n i (1 + 2 * i) a l p refl q so less m (two-no s 2 p t m k f h e)
 
   pub relation-on :
       (x y : ℕ) → t ≡ of-two.Two x y → t ≡ twoOf (two s 2 p) → p ≡ drop (1 + 2 * i) l → answer ≡ items (relation s) (n - i) i a (drop (1 + 2 * i) l) → i < n →
-        answer ≡ items (relation s) (n - (i + 1)) (i + 1) (withRelation i a (record { one = x; other = y })) (drop (1 + 2 * (i + 1)) l)
+      answer ≡ items (relation s) (n - (i + 1)) (i + 1) (withRelation i a (record { one = x; other = y })) (drop (1 + 2 * (i + 1)) l)
   unfolding relation
   relation-on x y h e q so less =
       stored-on (two s 2) (withRelation i) (relation s) answer n i (1 + 2 * i) a l p refl q so less (record { one = x; other = y }) 2 (1 + 2 * (i + 1)) (omega arith)
@@ -91,7 +91,7 @@ joins-cut n l f m k e h g = rw (field-no (countField (n - 1) (n - 1) l) m k f e 
 
 pub joins-start :
     (n : ℕ) (l : List ℕ) (f : Field) (v : ℕ) (a : Joins) → f ≡ fieldOf (countField (n - 1) (n - 1) l) → f ≡ Value v → a ≡ noJoins v →
-      joinsSection n l ≡ items (join n) (v - 0) 0 a (drop 1 l)
+    joinsSection n l ≡ items (join n) (v - 0) 0 a (drop 1 l)
 unfolding joinsSection
 joins-start n l f v a e h z = rw (field-value 1 2 (n - 1) (n - 1) v l f e h, sub-zero, z)
 
@@ -101,13 +101,13 @@ joins-most n l f v e h k = omega (arith, field-most 1 2 (n - 1) (n - 1) v l f e 
 module _ (n : ℕ) (answer : Read Joins) (m i : ℕ) (a : Joins) (l p : List ℕ) (t : TwoRead) where
   pub join-no :
       (o k : ℕ) → o ≡ twoFault t → t ≡ of-two.Refused k → t ≡ twoOf (two n n p) → p ≡ drop (1 + 2 * i) l → answer ≡ items (join n) (m - i) i a (drop (1 + 2 * i) l) →
-        i < m → refused o ≡ answer
+      i < m → refused o ≡ answer
   unfolding join
   join-no o k f h e q so less = stored-no (two n n) (withJoin i) (join n) answer m i (1 + 2 * i) a l p refl q so less o (two-no n n p t o k f h e)
 
   pub join-on :
       (x y : ℕ) → t ≡ of-two.Two x y → t ≡ twoOf (two n n p) → p ≡ drop (1 + 2 * i) l → answer ≡ items (join n) (m - i) i a (drop (1 + 2 * i) l) → i < m →
-        answer ≡ items (join n) (m - (i + 1)) (i + 1) (withJoin i a (record { one = x; other = y })) (drop (1 + 2 * (i + 1)) l)
+      answer ≡ items (join n) (m - (i + 1)) (i + 1) (withJoin i a (record { one = x; other = y })) (drop (1 + 2 * (i + 1)) l)
   unfolding join
   join-on x y h e q so less =
       stored-on (two n n) (withJoin i) (join n) answer m i (1 + 2 * i) a l p refl q so less (record { one = x; other = y }) 2 (1 + 2 * (i + 1)) (omega arith)
@@ -124,7 +124,7 @@ module _ (s : ℕ) (l : List ℕ) (f : Field) where
   module _ (v : ℕ) (p : List ℕ) (b : Field) where
     pub delivery-no :
         (n k : ℕ) → n ≡ faultOf b → b ≡ Refused k → b ≡ fieldOf (byteBelow s p) → p ≡ drop 1 l → f ≡ fieldOf (countField 1 1 l) → f ≡ Value v →
-          refused n ≡ deliverySection s l
+        refused n ≡ deliverySection s l
     unfolding deliverySection
     delivery-no n k e h g q i j = rw (field-value 1 2 1 1 v l f i j, ← q, field-no (byteBelow s p) n k b e h g)
 

@@ -23,7 +23,7 @@ module _ (J : Joins) (n d : ℕ) (l : List ℕ) (f : Field) where
 
   pub sizes-start :
       (v e : ℕ) → f ≡ fieldOf (field 2 2 d d l) → f ≡ Value v → d ≡ subqueries J n → e ≡ 2 ^ n →
-        sizesSection J n l ≡ items (sized J n) (e - 0) 0 (replicate 512 0) (drop 2 l)
+      sizesSection J n l ≡ items (sized J n) (e - 0) 0 (replicate 512 0) (drop 2 l)
   unfolding sizesSection
   sizes-start v e g h c p = rw (← c, field-value 2 2 d d v l f g h, sub-zero, p)
 
@@ -38,19 +38,19 @@ module _ (J : Joins) (n : ℕ) (answer : Read (List ℕ)) (e S at : ℕ) (a l : 
 
   pub size-none :
       b ≡ false → b ≡ isSubquery J n S → answer ≡ items (sized J n) (e - S) S a (drop at l) → S < e →
-        answer ≡ items (sized J n) (e - (S + 1)) (S + 1) a (drop at l)
+      answer ≡ items (sized J n) (e - (S + 1)) (S + 1) a (drop at l)
   size-none t q so less = items-on (sized J n) answer e S a (drop at l) a (drop at l) so less (none (sym q ∙ t) (drop at l))
 
   module _ (p : List ℕ) (f : Field) where
     pub size-no :
         (m k : ℕ) → m ≡ faultOf f → f ≡ Refused k → f ≡ fieldOf (amountUpTo 1_000_000_000 p) → p ≡ drop at l → b ≡ true → b ≡ isSubquery J n S →
-          answer ≡ items (sized J n) (e - S) S a (drop at l) → S < e → refused m ≡ answer
+        answer ≡ items (sized J n) (e - S) S a (drop at l) → S < e → refused m ≡ answer
     size-no m k u h g q t i so less =
         stored-no (amountUpTo 1_000_000_000) (λ c v. set c S v) (sized J n) answer e S at a l p (one (sym i ∙ t) p) q so less m (field-no _ m k f u h g)
 
     pub size-on :
         (v : ℕ) → f ≡ Value v → f ≡ fieldOf (amountUpTo 1_000_000_000 p) → p ≡ drop at l → b ≡ true → b ≡ isSubquery J n S →
-          answer ≡ items (sized J n) (e - S) S a (drop at l) → S < e → answer ≡ items (sized J n) (e - (S + 1)) (S + 1) (set a S v) (drop (at + 4) l)
+        answer ≡ items (sized J n) (e - S) S a (drop at l) → S < e → answer ≡ items (sized J n) (e - (S + 1)) (S + 1) (set a S v) (drop (at + 4) l)
     size-on v h g q t i so less =
         stored-on (amountUpTo 1_000_000_000) (λ c v. set c S v) (sized J n) answer e S at a l p (one (sym i ∙ t) p) q so less v 4 (at + 4) refl
         (field-value 4 3 0 1_000_000_000 v p f g h)

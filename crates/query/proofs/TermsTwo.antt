@@ -25,14 +25,14 @@ module _ (l : List ℕ) (a : Field) where
   module _ (x : ℕ) (p : List ℕ) (b : Field) where
     pub terms-second :
         (n k : ℕ) → n ≡ faultOf b → b ≡ Refused k → b ≡ fieldOf (amountUpTo 1_000_000 p) → p ≡ drop 1 l → a ≡ fieldOf (byteBelow 2 l) → a ≡ Value x →
-          of-terms.Refused n ≡ termsOf (terms l)
+        of-terms.Refused n ≡ termsOf (terms l)
     unfolding terms
     terms-second n k e h f q g i = rw (field-value 1 3 0 1 x l a g i, ← q, field-no (amountUpTo 1_000_000 p) n k b e h f)
 
     module _ (y : ℕ) (o : List ℕ) (c : Field) where
       pub terms-third :
           (n k : ℕ) → n ≡ faultOf c → c ≡ Refused k → c ≡ fieldOf (amountUpTo 1_000 o) → o ≡ drop 5 l → b ≡ fieldOf (amountUpTo 1_000_000 p) → b ≡ Value y →
-            p ≡ drop 1 l → a ≡ fieldOf (byteBelow 2 l) → a ≡ Value x → of-terms.Refused n ≡ termsOf (terms l)
+          p ≡ drop 1 l → a ≡ fieldOf (byteBelow 2 l) → a ≡ Value x → of-terms.Refused n ≡ termsOf (terms l)
       unfolding terms
       terms-third n k e h f q f₂ h₂ q₂ g i =
           let s : drop 4 p ≡ o = ap (drop 4) q₂ ∙ drop-drop 4 1 l ∙ sym q in
@@ -40,7 +40,7 @@ module _ (l : List ℕ) (a : Field) where
 
       pub terms-whole :
           (z : ℕ) → c ≡ Value z → c ≡ fieldOf (amountUpTo 1_000 o) → o ≡ drop 5 l → b ≡ fieldOf (amountUpTo 1_000_000 p) → b ≡ Value y → p ≡ drop 1 l →
-            a ≡ fieldOf (byteBelow 2 l) → a ≡ Value x → of-terms.Terms x y z ≡ termsOf (terms l)
+          a ≡ fieldOf (byteBelow 2 l) → a ≡ Value x → of-terms.Terms x y z ≡ termsOf (terms l)
       unfolding terms
       terms-whole z h f q f₂ h₂ q₂ g i =
           let s : drop 4 p ≡ o = ap (drop 4) q₂ ∙ drop-drop 4 1 l ∙ sym q in
@@ -57,7 +57,7 @@ module _ (i j : ℕ) (l : List ℕ) (a : Field) where
   module _ (x : ℕ) (p : List ℕ) (b : Field) where
     pub two-second :
         (n k : ℕ) → n ≡ faultOf b → b ≡ Refused k → b ≡ fieldOf (byteBelow j p) → p ≡ drop 1 l → a ≡ fieldOf (byteBelow i l) → a ≡ Value x →
-          of-two.Refused n ≡ twoOf (two i j l)
+        of-two.Refused n ≡ twoOf (two i j l)
     unfolding two
     two-second n k e h f q g o = rw (field-value 1 3 0 (i - 1) x l a g o, ← q, field-no (byteBelow j p) n k b e h f)
 

@@ -11,6 +11,7 @@ ghost use Rattle.query.specs.Code.{termsOf, termsFault, twoOf, twoFault}
 
 // The largest fixed amount and rate.
 pub const MOST_FIXED: u64 = 1000000;
+
 pub const MOST_RATE: u64 = 1000;
 
 // A flag, a fixed amount and a rate, or the number of the first refusal.

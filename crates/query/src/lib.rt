@@ -1,17 +1,16 @@
 // The query, its file and its prices.
+mod decoding;
 mod fields;
 mod items;
 mod sections;
 mod sizes;
-mod decoding;
 
-pub use fields::part_from;
-pub use sections::Outcome;
 pub use decoding::Decoded;
 pub use decoding::decode;
 pub use decoding::no_query;
-
+pub use fields::part_from;
 use relations::Joins;
+pub use sections::Outcome;
 
 // A count of bytes. Only a rate turns it into charge units.
 pub struct Bytes(pub u64);

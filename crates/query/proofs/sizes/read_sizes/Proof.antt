@@ -19,9 +19,9 @@ use Rattle.relations.proofs.single.Reads as single-reads
 use Rattle.relations.proofs.is_subquery.Reads as is-subquery-reads
 
 abbrev Inv-loop : tie.InvT-loop
-Inv-loop part due joins sizes₀ count end at₀ set₀ sizes at set = 
+Inv-loop part due joins sizes₀ count end at₀ set₀ sizes at set =
     (set ≤ end) × ((end ≤ 512) × ((end ≡ 2 ^ (count + 1)) × ((length sizes ≡ 512) × ((at ≤ 2 + 4 * set) ×
-      (sizesSection joins (count + 1) part ≡ items (sized joins (count + 1)) (end - set) set sizes (drop at part))))))
+    (sizesSection joins (count + 1) part ≡ items (sized joins (count + 1)) (end - set) set sizes (drop at part))))))
 
 abbrev μ-loop : tie.MeasureT-loop
 μ-loop part due joins sizes₀ count end at₀ set₀ sizes at set = end - set
