@@ -1,6 +1,6 @@
 -- The laws of membership: a set is known by its members, and what the members of an intersection, a union, a disjoint sum, a difference,
 -- a single relation and all relations are. Each is true digit by digit, by halving.
-use Prim.Native.Nat.{ℕ, zero, suc, _+_, _-_, _*_, _/_, _%_, _^_, _≤_, _<_, min, max, zero-le}
+use Prim.Native.Nat.{ℕ, zero, suc, _+_, _-_, _/_, _%_, _^_, _≤_, _<_, min, max, zero-le}
 use mathlib.Core.Path.{_≡_, refl, sym, ap, _∙_}
 use mathlib.Core.Logic.{_⊎_, inl, inr}
 use native.Mathlib.Nat.{mod-lt, div-one, div-self, zero-div, div-eq-of-lt, zero-lt-suc, lt-of-lt-of-le, le-antisymm, pow-suc}

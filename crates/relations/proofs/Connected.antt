@@ -1,21 +1,21 @@
 -- What a subquery is, whichever relation one starts from: a set below 2^n that is not empty, and that every closed set with one of its
 -- relations holds whole. The test grows from the lowest relation; from another it gives the same, since what is not reached is closed too.
-use Prim.Native.Nat.{ℕ, zero, suc, _+_, _-_, _^_, _≤_, _<_, min}
-use mathlib.Core.Path.{_≡_, refl, sym, ap, _∙_, subst}
-use mathlib.Core.Bool.{Bool, true, false, _&&_}
-use mathlib.Core.Logic.{_⊎_, inl, inr}
+use Prim.Native.Nat.{ℕ, zero, suc, _+_, _-_, _^_, _≤_, _<_}
+use mathlib.Core.Path.{_≡_, refl, ap, _∙_, subst}
+use mathlib.Core.Bool.{_&&_}
+use mathlib.Core.Logic.{inl, inr}
 use native.Mathlib.Omega.{arith}
 use lib.Bits.{bitAnd}
 use lib.Count.{ones, ones-le}
 use lib.Dec.{eqb, ltb}
-use lib.Pow.{pow-pos, pow-lt}
+use lib.Pow.{pow-pos}
 use borrow.Author.Tests.{eqb-true, eq-eqb, ltb-true, lt-ltb}
 use Rattle.relations.specs.declared.Joins.{Joins}
 use Rattle.relations.specs.Sets.{bit, Sub, all, lowest}
 use Rattle.relations.specs.Growth.{first, second, grow, Closed}
 use Rattle.relations.specs.Trees.{isSubquery, Subquery, reaches, Tree}
-use Rattle.relations.proofs.Bits.{bit-le, bit-none, bit-less, bit-pow, bit-all, all-below, le-of-sub, sub-single, sub-antisym, pow-cases}
-use Rattle.relations.proofs.Counts.{ones-pow, lowest-in}
+use Rattle.relations.proofs.Bits.{bit-le, bit-less, bit-pow, bit-all, le-of-sub, sub-single, sub-antisym, pow-cases}
+use Rattle.relations.proofs.Counts.{lowest-in}
 use Rattle.relations.proofs.Leads.{both-true, true-both}
 use Rattle.relations.proofs.Growth.{grow-has, grow-within, grow-least, grow-closed}
 
@@ -34,6 +34,7 @@ conn-seed J S k r here e = record { some = r; some-in = here; whole = λ A c q p
   where
     all-of : (A : ℕ) → Closed J S (J .count) A → bit A r ≡ 1 → Sub S A
     all-of A c h = subst (λ (B : ℕ). Sub B A) e (grow-least J S (J .count) k (2 ^ r) A c (sub-single A r h))
+
     go : (A : ℕ) → Closed J S (J .count) A → (q : ℕ) → bit S q ≡ 1 → bit A q ≡ 1 → (b : ℕ) → bit A r ≡ b → Sub S A
     go A c q p h (suc b) at = all-of A c (omega (arith, at, bit-le A r))
     go A c q p h zero at =
@@ -50,8 +51,8 @@ pub conn-grow : (J : Joins) (n S r : ℕ) → S < 2 ^ n → Conn J S → bit S r
 conn-grow J n S r h c here =
     let seed = sub-single S r here in
     sub-antisym (grow J S (J .count) n (2 ^ r)) S (grow-within J S (J .count) n (2 ^ r) seed)
-      (c .whole (grow J S (J .count) n (2 ^ r)) (grow-closed J S (J .count) n (2 ^ r) seed (enough n S r h)) r here
-        (omega (arith, grow-has J S (J .count) n (2 ^ r) r, bit-pow r, bit-le (grow J S (J .count) n (2 ^ r)) r)))
+    (c .whole (grow J S (J .count) n (2 ^ r)) (grow-closed J S (J .count) n (2 ^ r) seed (enough n S r h)) r here
+    (omega (arith, grow-has J S (J .count) n (2 ^ r) r, bit-pow r, bit-le (grow J S (J .count) n (2 ^ r)) r)))
 
 -- The test and its meaning.
 pub subquery-range : (J : Joins) (n S : ℕ) → Subquery J n S → (0 < S) × (S < 2 ^ n)
@@ -73,8 +74,8 @@ unfolding isSubquery
 of-conn J n S h c =
     let some = conn-pos J S c in
     true-both (ltb 0 S && ltb S (2 ^ n)) (eqb (grow J S (J .count) n (2 ^ lowest n S)) S)
-      (true-both (ltb 0 S) (ltb S (2 ^ n)) (lt-ltb 0 S some) (lt-ltb S (2 ^ n) h))
-      (eq-eqb (grow J S (J .count) n (2 ^ lowest n S)) S (conn-grow J n S (lowest n S) h c (lowest-in n S some h)))
+    (true-both (ltb 0 S) (ltb S (2 ^ n)) (lt-ltb 0 S some) (lt-ltb S (2 ^ n) h))
+    (eq-eqb (grow J S (J .count) n (2 ^ lowest n S)) S (conn-grow J n S (lowest n S) h c (lowest-in n S some h)))
 
 -- One relation is connected, and so are all relations of a tree.
 pub conn-single : (J : Joins) (r : ℕ) → Conn J (2 ^ r)

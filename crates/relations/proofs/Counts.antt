@@ -1,8 +1,8 @@
 -- How many members a set has: the counts of disjoint sets add up, so a set with as many members as one that holds it is that set.
 -- With it, the lowest member of a set, which is the only one of a set of one.
-use Prim.Native.Nat.{ℕ, zero, suc, _+_, _-_, _*_, _/_, _%_, _^_, _≤_, _<_, zero-le}
+use Prim.Native.Nat.{ℕ, zero, suc, _+_, _-_, _/_, _%_, _^_, _≤_, _<_}
 use mathlib.Core.Path.{_≡_, refl, sym, ap, _∙_}
-use mathlib.Core.Logic.{_⊎_, inl, inr}
+use mathlib.Core.Logic.{inl, inr}
 use native.Mathlib.Nat.{zero-add, pow-suc, eq-zero-or-pos}
 use native.Mathlib.Omega.{arith}
 use lib.Arith.{bin-ind}

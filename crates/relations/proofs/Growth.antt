@@ -1,6 +1,6 @@
 -- Growth is the least closed set that holds what it starts from: each addition stays within every closed set, and with enough steps none is left.
 -- So the number of steps does not matter once it is enough, nor which leading join is followed first.
-use Prim.Native.Nat.{ℕ, zero, suc, _+_, _^_, _≤_, _<_}
+use Prim.Native.Nat.{ℕ, zero, suc, _+_, _≤_, _<_}
 use mathlib.Core.Path.{_≡_, refl, sym, ap, _∙_, subst}
 use mathlib.Core.Bool.{Bool, true, false}
 use mathlib.Core.Logic.{_⊎_, inl, inr}
@@ -8,7 +8,7 @@ use native.Mathlib.Nat.{eq-or-lt-of-le}
 use native.Mathlib.Omega.{arith}
 use lib.Count.{ones}
 use Rattle.relations.specs.declared.Joins.{Joins}
-use Rattle.relations.specs.Sets.{bit, Sub}
+use Rattle.relations.specs.Sets.{Sub}
 use Rattle.relations.specs.Growth.{first, second, leads, along, step, grow, Closed}
 use Rattle.relations.specs.Theorems.{Grown, GrowthLeast}
 use Rattle.relations.proofs.Bits.{bit-le, sub-antisym}
@@ -30,7 +30,9 @@ module _ (J : Joins) (S x : ℕ) where
       go true h later = absurd (never-both true refl h)
       go false h later = later
 
-  pub step-at : (A m e i : ℕ) → e ≤ i → i < e + m → ((j : ℕ) → e ≤ j → j < i → leads J S x A j ≡ false) → leads J S x A i ≡ true → step J S x A m e ≡ along J A i
+  pub step-at :
+      (A m e i : ℕ) → e ≤ i → i < e + m → ((j : ℕ) → e ≤ j → j < i → leads J S x A j ≡ false) → leads J S x A i ≡ true
+      → step J S x A m e ≡ along J A i
   unfolding step
   step-at A zero e i l h none here = omega arith
   step-at A (suc m) e i l h none here =

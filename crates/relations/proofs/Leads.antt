@@ -53,10 +53,22 @@ leads-means J S x A e h =
       half = eqb-true (bit A (first J e) + bit A (second J e)) 1 (outer .1);
     }
 
-pub leads-not : (J : Joins) (S x A e : ℕ) → leads J S x A e ≡ false → (e ≡ x → ⊥) → bit S (first J e) ≡ 1 → bit S (second J e) ≡ 1 → bit A (first J e) ≡ bit A (second J e)
+-- Of a join in S that is not skipped, the test is whether just one of its relations is in A.
+pub leads-is :
+    (J : Joins) (S x A e : ℕ) → (e ≡ x → ⊥) → bit S (first J e) ≡ 1 → bit S (second J e) ≡ 1
+    → leads J S x A e ≡ eqb (bit A (first J e) + bit A (second J e)) 1
 unfolding leads
+leads-is J S x A e d p q = rw (ne-eqb e x d, ends-inside J S e p q)
+
+pub leads-of : (J : Joins) (S x A e : ℕ) → Leads J S x A e → leads J S x A e ≡ true
+leads-of J S x A e o =
+    leads-is J S x A e (o .other) (o .first-in) (o .second-in) ∙ eq-eqb (bit A (first J e) + bit A (second J e)) 1 (o .half)
+
+pub leads-not :
+    (J : Joins) (S x A e : ℕ) → leads J S x A e ≡ false → (e ≡ x → ⊥) → bit S (first J e) ≡ 1 → bit S (second J e) ≡ 1
+    → bit A (first J e) ≡ bit A (second J e)
 leads-not J S x A e h d p q =
-    let test : eqb (bit A (first J e) + bit A (second J e)) 1 ≡ false = ap (λ (t : Bool). (not t && true) && eqb (bit A (first J e) + bit A (second J e)) 1) (sym (ne-eqb e x d)) ∙ ap (λ (t : Bool). (not (eqb e x) && t) && eqb (bit A (first J e) + bit A (second J e)) 1) (sym (ends-inside J S e p q)) ∙ h in
+    let test = sym (leads-is J S x A e d p q) ∙ h in
     omega (arith, eqb-false (bit A (first J e) + bit A (second J e)) 1 test, bit-le A (first J e), bit-le A (second J e))
 
 -- What following a join adds.

@@ -8,3 +8,6 @@ pub mod Trees
 pub mod Halves
 pub mod Splits
 pub mod Unions
+pub mod JoinCounts
+pub mod SubqueryCount
+pub mod Subqueries
