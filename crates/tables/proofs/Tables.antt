@@ -12,6 +12,8 @@ use Rattle.relations.specs.Growth.{inside}
 use Rattle.relations.specs.Trees.{Subquery}
 use Rattle.relations.specs.Theorems.{Split}
 use Rattle.relations.proofs.Counts.{ones-pos}
+use Rattle.relations.proofs.Splits.{split}
+use Rattle.relations.proofs.Subqueries.{subqueries-law}
 use Rattle.query.specs.declared.Query.{Query}
 use Rattle.query.specs.Choice.{pick}
 use Rattle.query.specs.Cost.{Cost, none, some, both, plus, AtMost}
@@ -23,14 +25,13 @@ use Rattle.tables.specs.Plan.{bestSite, bestJoin}
 use Rattle.tables.specs.Theorems.{DeliveredIs}
 use Rattle.tables.proofs.Costs.{Two, both-found, some-same, picked}
 use Rattle.tables.proofs.Least.{least-most, least-found, best-same}
-use Rattle.tables.proofs.Trees.{split, subqueries}
 
 -- A subquery has at least one relation and at most all.
 pub ones-some : (q : Query) → Valid q → (S : ℕ) → Subquery (q .joins) (relationsOf q) S → 0 < ones S
-ones-some q v S s = ones-pos S (subqueries (q .joins) (relationsOf q) (v .tree) .range S s .0)
+ones-some q v S s = ones-pos S (subqueries-law (q .joins) (relationsOf q) (v .tree) .range S s .0)
 
 pub ones-most : (q : Query) → Valid q → (S : ℕ) → Subquery (q .joins) (relationsOf q) S → ones S ≤ relationsOf q
-ones-most q v S s = ones-le (relationsOf q) S (subqueries (q .joins) (relationsOf q) (v .tree) .range S s .1)
+ones-most q v S s = ones-le (relationsOf q) S (subqueries-law (q .joins) (relationsOf q) (v .tree) .range S s .1)
 
 module _ (combine : ℕ → ℕ → ℕ) (q : Query) (v : Valid q) where
   abbrev Sub-q : ℕ → Type 0
@@ -42,7 +43,7 @@ module _ (combine : ℕ → ℕ → ℕ) (q : Query) (v : Valid q) where
   unfolding byJoin
   by-join-same D E S k e s l same = go (inside (q .joins) S e) refl
     where
-      abbrev price : Cost
+      price : Cost
       price = some (joinPrice q k (indexed q (firstPart q S e) k) (firstPart q S e) (indexed q (otherPart q S e) k) (otherPart q S e))
 
       go : (b : Bool) → inside (q .joins) S e ≡ b →
