@@ -2,3 +2,4 @@ pub mod Steps
 pub mod CostIsSum
 pub mod Kept
 pub mod Runs
+pub mod Stacks
