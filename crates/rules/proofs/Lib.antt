@@ -3,3 +3,4 @@ pub mod CostIsSum
 pub mod Kept
 pub mod Runs
 pub mod Stacks
+pub mod Rooms

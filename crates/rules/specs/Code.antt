@@ -48,3 +48,26 @@ outcomeOf s = told (s .outcome) (machineOf (s .state))
 abbrev pub verdictOf : Checked → Verdict
 verdictOf (Accepted c) = accepted (c .0)
 verdictOf (Rejected k i) = rejected k i
+
+-- What a held result may still be charged for until a join has taken it: a send and its share of the join, or its share alone where it was sent.
+abbrev pub slack : Origin → ℕ
+slack Bare = 5_000_003_000_000
+slack Sent = 4_000_002_000_000
+slack Joined = 5_000_003_000_000
+
+-- The sums over the held results of their sets' numbers, and of their figures with what they may still be charged for.
+abbrev pub sets : List Held → ℕ
+sets [] = 0
+sets (h ∷ hs) = h .set + sets hs
+
+abbrev pub figures : List Held → ℕ
+figures [] = 0
+figures (h ∷ hs) = h .figure .0 + slack (h .origin) + figures hs
+
+-- What a run over n relations keeps: it holds at most one result a relation loaded, and no figure is above what its set's number allows,
+-- so nine entries are enough and no sum of figures overflows.
+pub record Room (n : ℕ) (m : Machine) : Type 0 where
+  pub in-all : m .loaded < 2 ^ n
+  pub few : length (m .stack) ≤ ones (m .loaded)
+  pub parts : sets (m .stack) ≤ m .loaded
+  pub small : figures (m .stack) ≤ 5_000_003_000_000 * sets (m .stack)
