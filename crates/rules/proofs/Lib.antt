@@ -4,3 +4,4 @@ pub mod Kept
 pub mod Runs
 pub mod Stacks
 pub mod Rooms
+pub mod Pricing

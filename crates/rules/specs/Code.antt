@@ -71,3 +71,40 @@ pub record Room (n : ℕ) (m : Machine) : Type 0 where
   pub few : length (m .stack) ≤ ones (m .loaded)
   pub parts : sets (m .stack) ≤ m .loaded
   pub small : figures (m .stack) ≤ 5_000_003_000_000 * sets (m .stack)
+
+-- Queries of which only some parts are given, as the functions that are lent these parts alone see them. What is left out they do not look at.
+abbrev pub ofRelations : Relations → Query
+ofRelations r = record { sites = noSites 0; relations = r; joins = noJoins 0; sizes = []; lines = noLines; target = 0 }
+
+abbrev pub ofLines : ℕ → List ℕ → List ℕ → List ℕ → List ℕ → Query
+ofLines s sizes flag fixed rate =
+    record {
+      sites = noSites s; relations = noRelations 0; joins = noJoins 0; sizes = sizes; lines = record { flag = flag; fixed = fixed; rate = rate }; target = 0 }
+
+abbrev pub ofSites : Sites → Relations → Joins → List ℕ → Query
+ofSites s r j sizes = record { sites = s; relations = r; joins = j; sizes = sizes; lines = noLines; target = 0 }
+
+abbrev pub ofParts : Sites → Relations → Joins → List ℕ → List ℕ → List ℕ → List ℕ → Query
+ofParts s r j sizes flag fixed rate =
+    record { sites = s; relations = r; joins = j; sizes = sizes; lines = record { flag = flag; fixed = fixed; rate = rate }; target = 0 }
+
+-- Sizes, fixed amounts and rates within document 01's limits.
+pub record Amounts (sizes fixed rate : List ℕ) : Type 0 where
+  pub sizes-most : UpTo 1_000_000_000 sizes
+  pub fixed-most : UpTo 1_000_000 fixed
+  pub rate-most : UpTo 1_000 rate
+
+-- The lines of all pairs of eight sites.
+pub record Lined (flag fixed rate : List ℕ) : Type 0 where
+  pub flags : length flag ≡ 64
+  pub fixeds : length fixed ≡ 64
+  pub rates : length rate ≡ 64
+
+-- What a step asks of the parts of a query: document 01's limits.
+pub record Fair (sites : Sites) (relations : Relations) (joins : Joins) (sizes flag fixed rate : List ℕ) : Type 0 where
+  pub sites-most : sites .count ≤ 8
+  pub relations-most : relations .count ≤ 9
+  pub joins-fewer : joins .count + 1 ≡ relations .count
+  pub by-line : Amounts sizes fixed rate
+  pub by-site : Amounts sizes (sites .fixed) (sites .rate)
+  pub lined : Lined flag fixed rate
