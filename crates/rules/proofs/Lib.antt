@@ -5,3 +5,4 @@ pub mod Runs
 pub mod Stacks
 pub mod Rooms
 pub mod Pricing
+pub mod Outcomes

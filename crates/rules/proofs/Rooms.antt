@@ -6,8 +6,10 @@ use mathlib.Core.List.{List, [], _∷_}
 use native.Mathlib.Omega.{arith}
 use lib.ListN.{length}
 use lib.Count.{ones, ones-le}
-use lib.Pow.{pow-pos, pow-mono}
+use lib.Pow.{pow-pos, pow-mono, pow-lt}
 use lib.Dec.{eqb, ltb}
+use mir.Syntax.{w64}
+use mir.Val.{Fits}
 use borrow.Author.Tests.{ltb-true, eqb-true, not-true}
 use Rattle.relations.specs.Sets.{bit, Sub, all}
 use Rattle.relations.proofs.Bits.{single-apart, bit-add, sub-all, sub-single, bit-all, bit-le, below-of-sub, all-below}
@@ -21,8 +23,9 @@ use Rattle.rules.specs.declared.Origin.the-variants.{Bare, Sent, Joined}
 use Rattle.rules.specs.declared.Held.{Held}
 use Rattle.rules.specs.Machine.{Machine, start, Outcome, went, refused, isSent, load, sendTop, send, links, spared, joinTop, join, step}
 use Rattle.rules.specs.Plans.{Step}
-use Rattle.rules.specs.Code.{Room, slack, sets, figures}
+use Rattle.rules.specs.Code.{Room, topFirst, slack, sets, figures}
 use Rattle.rules.proofs.Steps.{guarded, step-cases}
+use Rattle.rules.proofs.Stacks.{depth-is}
 
 -- A set of relations with one more of them.
 pub more-below : (n S r : ℕ) → S < 2 ^ n → r < n → bit S r ≡ 0 → S + 2 ^ r < 2 ^ n
@@ -99,3 +102,35 @@ step-room q v x m room =
     (guarded (Roomy (relationsOf q)) (ltb (x .arg) (relationsOf q - 1)) 8 _ tt λ known.
     join-room q v (relationsOf q) (x .arg) (m .loaded) (m .stack) room)
     tt
+
+-- What the room leaves the code: depths within nine entries, sets within n relations, figures that can be added.
+pub wider : (n : ℕ) (m : Machine) → Room n m → n ≤ 9 → Room 9 m
+wider n m room l = record { in-all = omega (arith, room .in-all, pow-mono l); few = room .few; parts = room .parts; small = room .small }
+
+module _ (n L : ℕ) (a : List Held) (d : ℕ) (room : Room n (record { loaded = L; stack = topFirst a d })) (l : n ≤ 9) where
+  pub depth-most : d ≤ 9
+  depth-most = omega (arith, room .few, depth-is a d, ones-le n L (room .in-all))
+
+  pub depth-free : (r v : ℕ) → r < n → v ≡ bit L r → v ≡ 0 → d < 9
+  depth-free r v h b z =
+      let fresh : bit L r ≡ 0 = omega arith in
+      omega (arith, room .few, depth-is a d, more-ones L r fresh, ones-le n (L + 2 ^ r) (more-below n L r (room .in-all) h fresh))
+
+module _ (n L : ℕ) (s hs : List Held) (room : Room n (record { loaded = L; stack = s })) where
+  pub loaded-fits : (r w : ℕ) → n ≤ 9 → r < n → w ≡ 2 ^ r → Fits w64 (L + w)
+  loaded-fits r w l h e = record { fits = omega (arith, room .in-all, pow-mono l, pow-lt h) }
+
+  pub figure-most : (h : Held) → n ≤ 9 → s ≡ h ∷ hs → h .figure .0 ≤ 4000000000000000
+  figure-most h l e =
+      let top : Room n (record { loaded = L; stack = h ∷ hs }) = rw e at room in
+      omega (arith, top .in-all, top .parts, top .small, pow-mono l)
+
+  pub operands-below : (a b : Held) → s ≡ b ∷ (a ∷ hs) → a .set + b .set < 2 ^ n
+  operands-below a b e =
+      let top : Room n (record { loaded = L; stack = b ∷ (a ∷ hs) }) = rw e at room in
+      omega (arith, top .in-all, top .parts)
+
+  pub operands-most : (a b : Held) → n ≤ 9 → s ≡ b ∷ (a ∷ hs) → a .figure .0 + b .figure .0 ≤ 4000000000000000
+  operands-most a b l e =
+      let top : Room n (record { loaded = L; stack = b ∷ (a ∷ hs) }) = rw e at room in
+      omega (arith, top .in-all, top .parts, top .small, pow-mono l)

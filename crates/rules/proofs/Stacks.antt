@@ -35,3 +35,6 @@ pub popped : (a : List Held) (d : ℕ) → 0 < d → topFirst a d ≡ getD a (d 
 unfolding topFirst
 popped a zero l = absurd (omega arith)
 popped a (suc d) l = let e : suc d - 1 ≡ d = omega arith in rw e
+
+pub popped-two : (s u hs : List Held) (b a : Held) → s ≡ b ∷ u → u ≡ a ∷ hs → s ≡ b ∷ (a ∷ hs)
+popped-two s u hs b a e f = rw (e, f)

@@ -14,6 +14,13 @@ pub struct Popped {
     pub rest: Stack,
 }
 
+// The top two, and what is left below them.
+pub struct PoppedTwo {
+    pub top: Held,
+    pub next: Held,
+    pub rest: Stack,
+}
+
 // What stands in an entry that is not in use.
 fn nothing() -> Held
     ensures { λ r. ⌜ r ≡ nothing ⌝ }
@@ -48,11 +55,24 @@ pub fn push(s: Stack, h: Held) -> Stack
 
 pub fn pop(s: Stack) -> Popped
     requires { ⌜ (0 < s .depth) × (s .depth ≤ 9) ⌝ }
-    ensures { λ r. ⌜ (stackOf s ≡ r .top ∷ stackOf (r .rest)) × (r .rest .depth + 1 ≡ s .depth) ⌝ }
+    ensures { λ r. ⌜ (stackOf s ≡ r .top ∷ stackOf (r .rest)) × (r .rest .depth + 1 ≡ s .depth) × (r .rest .depth < 9) ⌝ }
 {
     let d = s.depth - 1;
     let top = s.held[d];
     let mut rest = s;
     rest.depth = d;
     Popped { top, rest }
+}
+
+pub fn pop_two(s: Stack) -> PoppedTwo
+    requires { ⌜ (1 < s .depth) × (s .depth ≤ 9) ⌝ }
+    ensures { λ r. ⌜ (stackOf s ≡ r .top ∷ (r .next ∷ stackOf (r .rest))) × (r .rest .depth < 9) ⌝ }
+{
+    let one = pop(s);
+    let top = one.top;
+    let below = one.rest;
+    let two = pop(below);
+    let next = two.top;
+    let rest = two.rest;
+    PoppedTwo { top, next, rest }
 }

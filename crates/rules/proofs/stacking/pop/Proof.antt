@@ -19,7 +19,7 @@ element-copy-out-top c = search needs
 
 -- src/stacking.rt:49:1
 returns : tie.Need-returns
-returns c = (search (needs, popped), search needs)
+returns c = (search (needs, popped), search needs, search needs)
 
 pub pop-spec : {M : Type 1} → statement M
 pop-spec = tie.close (tie.spec sub-d mul-top element-copy-out-top returns)
