@@ -6,3 +6,4 @@ pub mod Stacks
 pub mod Rooms
 pub mod Pricing
 pub mod Outcomes
+pub mod Checking

@@ -52,7 +52,7 @@ pub start-room : (n : ℕ) → Room n start
 start-room n = record { in-all = pow-pos n; few = omega arith; parts = omega arith; small = omega arith }
 
 -- What a step keeps: where it goes, the room.
-abbrev Roomy : ℕ → Outcome → Type 0
+abbrev pub Roomy : ℕ → Outcome → Type 0
 Roomy n (went m) = Room n m
 Roomy n (refused k) = Unit {0}
 
@@ -94,7 +94,7 @@ join-room q v n e L (b ∷ (a ∷ hs)) room =
       small =
         omega (arith, room .small, slack-low (a .origin), slack-low (b .origin), join-most q v (b .site) (spared q a) (a .set) (spared q b) (b .set)) }
 
-step-room : (q : Query) → Valid q → (x : Step) (m : Machine) → Room (relationsOf q) m → Roomy (relationsOf q) (step _+_ q (x .kind) (x .arg) m)
+pub step-room : (q : Query) → Valid q → (x : Step) (m : Machine) → Room (relationsOf q) m → Roomy (relationsOf q) (step _+_ q (x .kind) (x .arg) m)
 unfolding send join
 step-room q v x m room =
     step-cases (λ o p. Roomy (relationsOf q) o) _+_ q x m (load-room q (x .arg) m room)

@@ -45,6 +45,11 @@ told (Refused k) m = refused k
 abbrev pub outcomeOf : Stepped → Outcome
 outcomeOf s = told (s .outcome) (machineOf (s .state))
 
+-- The number of a step's refusal, and 0 where it went.
+abbrev pub numberOf : code.Outcome → ℕ
+numberOf Went = 0
+numberOf (Refused k) = k
+
 abbrev pub verdictOf : Checked → Verdict
 verdictOf (Accepted c) = accepted (c .0)
 verdictOf (Rejected k i) = rejected k i
@@ -87,6 +92,9 @@ ofSites s r j sizes = record { sites = s; relations = r; joins = j; sizes = size
 abbrev pub ofParts : Sites → Relations → Joins → List ℕ → List ℕ → List ℕ → List ℕ → Query
 ofParts s r j sizes flag fixed rate =
     record { sites = s; relations = r; joins = j; sizes = sizes; lines = record { flag = flag; fixed = fixed; rate = rate }; target = 0 }
+
+abbrev pub ofEnd : ℕ → ℕ → Query
+ofEnd n t = record { sites = noSites 0; relations = noRelations n; joins = noJoins 0; sizes = []; lines = noLines; target = t }
 
 -- Sizes, fixed amounts and rates within document 01's limits.
 pub record Amounts (sizes fixed rate : List ℕ) : Type 0 where
