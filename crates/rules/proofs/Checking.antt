@@ -119,3 +119,31 @@ pub room-again : (q : Query) (k a : ℕ) (m : Machine) (s : Stepped) → Valid q
 room-again q k a m s v room e f =
     let gone : step _+_ q k a m ≡ went (machineOf (s .state)) = sym (e ∙ step-same q k a m) ∙ rw f in
     rw gone at (step-room q v (record { kind = k; arg = a }) m room)
+
+-- The count byte and the length. Where one is wrong the plan is refused with 7, else it is run.
+module _ (q : Query) (o : Verdict) where
+  pub plan-empty : (plan : List ℕ) → length plan ≡ 0 → o ≡ rejected 7 0 → o ≡ checked _+_ q plan
+  unfolding checked
+  plan-empty [] e r = r
+  plan-empty (c ∷ bytes) e r = absurd (omega arith)
+
+  pub count-low : (plan : List ℕ) (c : ℕ) → c ≡ getD plan 0 0 → c < 1 → o ≡ rejected 7 0 → o ≡ checked _+_ q plan
+  unfolding checked
+  count-low [] c e l r = r
+  count-low (c′ ∷ bytes) c e l r = r ∙ rw (← e, lt-leb 1 c l)
+
+  pub count-high : (plan : List ℕ) (c : ℕ) → c ≡ getD plan 0 0 → 1 ≤ c → 34 < c → o ≡ rejected 7 0 → o ≡ checked _+_ q plan
+  unfolding checked
+  count-high [] c e l h r = r
+  count-high (c′ ∷ bytes) c e l h r = r ∙ rw (← e, le-leb 1 c l, lt-leb c 34 h)
+
+  pub length-other : (plan : List ℕ) (c : ℕ) → c ≡ getD plan 0 0 → 1 ≤ c → c ≤ 34 → (length plan ≡ 1 + 2 * c → ⊥) → o ≡ rejected 7 0 → o ≡ checked _+_ q plan
+  unfolding checked
+  length-other [] c e l h d r = r
+  length-other (c′ ∷ bytes) c e l h d r = r ∙ rw (← e, le-leb 1 c l, le-leb c 34 h, ne-eqb (length bytes) (2 * c) (λ f. d (omega arith)))
+
+  pub plan-whole : (plan : List ℕ) (c : ℕ) → c ≡ getD plan 0 0 → 1 ≤ c → c ≤ 34 → length plan ≡ 1 + 2 * c → o ≡ run _+_ q 0 (stepsOf (drop 1 plan)) start →
+      o ≡ checked _+_ q plan
+  unfolding checked
+  plan-whole [] c e l h f r = absurd (omega arith)
+  plan-whole (c′ ∷ bytes) c e l h f r = r ∙ rw (← e, le-leb 1 c l, le-leb c 34 h, eq-eqb (length bytes) (2 * c) (omega arith))

@@ -1,4 +1,5 @@
 use borrow.Author.Needs.{needs}
+use Rattle.rules.proofs.Checking.{plan-empty, count-low, count-high, length-other, plan-whole}
 use Rattle.rules.proofs.plans.check.Statement.{statement}
 use Rattle.rules.proofs.plans.check.Tie as tie
 use Rattle.rules.proofs.plans.check.Reads as reads
@@ -13,7 +14,7 @@ rejected-requires c κs = search needs
 
 -- src/plans.rt:108:9
 returns : tie.Need-returns
-returns c = ?
+returns c = search (needs, plan-empty)
 
 -- src/plans.rt:110:9
 byte-requires : tie.Need-byte-requires
@@ -25,7 +26,7 @@ rejected-requires-2 c κs = search needs
 
 -- src/plans.rt:112:9
 returns-2 : tie.Need-returns-2
-returns-2 c = ?
+returns-2 c = search (needs, count-low)
 
 -- src/plans.rt:115:9
 rejected-requires-3 : tie.Need-rejected-requires-3
@@ -33,7 +34,7 @@ rejected-requires-3 c κs = search needs
 
 -- src/plans.rt:115:9
 returns-3 : tie.Need-returns-3
-returns-3 c = ?
+returns-3 c = search (needs, count-high)
 
 -- src/plans.rt:117:26
 mul-if4 : tie.Need-mul-if4
@@ -49,7 +50,7 @@ rejected-requires-4 c κs = search needs
 
 -- src/plans.rt:118:9
 returns-4 : tie.Need-returns-4
-returns-4 c = ?
+returns-4 c = search (needs, length-other)
 
 -- src/plans.rt:120:5
 run-requires : tie.Need-run-requires
@@ -57,7 +58,7 @@ run-requires c κs = search needs
 
 -- src/plans.rt:103:1
 returns-5 : tie.Need-returns-5
-returns-5 c = ?
+returns-5 c = search (needs, plan-whole)
 
 pub check-spec : {M : Type 1} → statement M
 check-spec =
