@@ -73,7 +73,8 @@ valid-fair q v a b c =
       joins-fewer = v .tree .joins;
       by-line = record { sizes-most = v .sizes-most; fixed-most = v .line-fixed-most; rate-most = v .line-rate-most };
       by-site = record { sizes-most = v .sizes-most; fixed-most = v .join-fixed-most; rate-most = v .join-rate-most };
-      lined = record { flags = a; fixeds = b; rates = c } }
+      lined = record { flags = a; fixeds = b; rates = c };
+    }
 
 -- What the code's step gave is the step of kind k and argument a.
 abbrev Took : Query → ℕ → ℕ → Machine → Stepped → Type 0

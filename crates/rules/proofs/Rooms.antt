@@ -66,7 +66,8 @@ load-room q r m room =
       in-all = more-below (relationsOf q) (m .loaded) r (room .in-all) (ltb-true r (relationsOf q) known) fresh;
       few = omega (arith, more-ones (m .loaded) r fresh);
       parts = omega arith;
-      small = omega (arith, pow-pos r) }
+      small = omega (arith, pow-pos r);
+    }
 
 send-room : (q : Query) → Valid q → (n t L : ℕ) (hs : List Held) → Room n (record { loaded = L; stack = hs }) → Roomy n (sendTop q t L hs)
 unfolding sendTop
@@ -79,7 +80,8 @@ send-room q v n t L (h ∷ hs) room =
       in-all = room .in-all;
       few = room .few;
       parts = room .parts;
-      small = omega (arith, room .small, line-most q v (h .set) (h .site) t) }
+      small = omega (arith, room .small, line-most q v (h .set) (h .site) t);
+    }
 
 join-room : (q : Query) → Valid q → (n e L : ℕ) (hs : List Held) → Room n (record { loaded = L; stack = hs }) → Roomy n (joinTop _+_ q e L hs)
 unfolding joinTop
@@ -92,7 +94,8 @@ join-room q v n e L (b ∷ (a ∷ hs)) room =
       few = omega (arith, room .few);
       parts = omega (arith, room .parts);
       small =
-        omega (arith, room .small, slack-low (a .origin), slack-low (b .origin), join-most q v (b .site) (spared q a) (a .set) (spared q b) (b .set)) }
+          omega (arith, room .small, slack-low (a .origin), slack-low (b .origin), join-most q v (b .site) (spared q a) (a .set) (spared q b) (b .set));
+    }
 
 pub step-room : (q : Query) → Valid q → (x : Step) (m : Machine) → Room (relationsOf q) m → Roomy (relationsOf q) (step _+_ q (x .kind) (x .arg) m)
 unfolding send join

@@ -84,7 +84,13 @@ ofRelations r = record { sites = noSites 0; relations = r; joins = noJoins 0; si
 abbrev pub ofLines : ℕ → List ℕ → List ℕ → List ℕ → List ℕ → Query
 ofLines s sizes flag fixed rate =
     record {
-      sites = noSites s; relations = noRelations 0; joins = noJoins 0; sizes = sizes; lines = record { flag = flag; fixed = fixed; rate = rate }; target = 0 }
+      sites = noSites s;
+      relations = noRelations 0;
+      joins = noJoins 0;
+      sizes = sizes;
+      lines = record { flag = flag; fixed = fixed; rate = rate };
+      target = 0;
+    }
 
 abbrev pub ofSites : Sites → Relations → Joins → List ℕ → Query
 ofSites s r j sizes = record { sites = s; relations = r; joins = j; sizes = sizes; lines = noLines; target = 0 }

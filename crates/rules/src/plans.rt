@@ -87,7 +87,18 @@ fn run(q: Query, plan: &[u8], count: usize) -> Checked
     while i < count {
         let kind = byte(plan, 1 + 2 * i);
         let arg = byte(plan, 2 + 2 * i);
-        let stepped = step(sites, relations, joins, &q.sizes, &q.lines.flag, &q.lines.fixed, &q.lines.rate, state, kind, arg);
+        let stepped = step(
+            sites,
+            relations,
+            joins,
+            &q.sizes,
+            &q.lines.flag,
+            &q.lines.fixed,
+            &q.lines.rate,
+            state,
+            kind,
+            arg,
+        );
         let outcome = stepped.outcome;
         let Outcome::Went = outcome else {
             return rejected(number(outcome), i);

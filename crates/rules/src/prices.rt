@@ -80,7 +80,15 @@ fn is_spared(relations: Relations, h: Held) -> bool
 }
 
 // The price of joining sets a and b at a site, with whether the reads of each are spared.
-fn join_price(sites: Sites, sizes: &[u64], site: usize, one: bool, a: usize, other: bool, b: usize) -> Charge
+fn join_price(
+    sites: Sites,
+    sizes: &[u64],
+    site: usize,
+    one: bool,
+    a: usize,
+    other: bool,
+    b: usize,
+) -> Charge
     requires { ⌜ Amounts (now sizes) (sites .fixed) (sites .rate) × (a + b < 512) ⌝ }
     ensures { λ r. ⌜ (r .0 ≡ joinPrice (ofSites sites (noRelations 0) (noJoins 0) (now (sizes .entry))) site one a other b) × (r .0 ≤ 3000001000000) ⌝ }
 {

@@ -92,7 +92,15 @@ fn may_send(flag: &[u64], top: Held, t: usize) -> bool
 }
 
 // 2, send to t: moves the top to t.
-fn send<'a>(count: usize, sizes: &'a [u64], flag: &'a [u64], fixed: &'a [u64], rate: &'a [u64], state: State, t: usize) -> Stepped
+fn send<'a>(
+    count: usize,
+    sizes: &'a [u64],
+    flag: &'a [u64],
+    fixed: &'a [u64],
+    rate: &'a [u64],
+    state: State,
+    t: usize,
+) -> Stepped
     requires { ⌜ (count ≤ 8) × Amounts (now sizes) (now fixed) (now rate) × Lined (now flag) (now fixed) (now rate) × Room 9 (machineOf state) ⌝ }
     ensures { λ out. ⌜ outcomeOf out ≡ send (ofLines count (now (sizes .entry)) (now (flag .entry)) (now (fixed .entry)) (now (rate .entry))) t (machineOf state) ⌝ }
 {
@@ -126,7 +134,14 @@ fn may_join(sites: Sites, joins: Joins, a: Held, b: Held, e: usize) -> bool
 }
 
 // 3, join e: the top two become one.
-fn join(sites: Sites, relations: Relations, joins: Joins, sizes: &[u64], state: State, e: usize) -> Stepped
+fn join(
+    sites: Sites,
+    relations: Relations,
+    joins: Joins,
+    sizes: &[u64],
+    state: State,
+    e: usize,
+) -> Stepped
     requires { ⌜ (relations .count ≤ 9) × (joins .count + 1 ≡ relations .count) ⌝ }
     requires { ⌜ Amounts (now sizes) (sites .fixed) (sites .rate) × Room (relations .count) (machineOf state) ⌝ }
     ensures { λ out. ⌜ outcomeOf out ≡ join _+_ (ofSites sites relations joins (now (sizes .entry))) e (machineOf state) ⌝ }
@@ -143,7 +158,10 @@ fn join(sites: Sites, relations: Relations, joins: Joins, sizes: &[u64], state: 
     let b = popped.top;
     if may_join(sites, joins, a, b, e) {
         let below = popped.rest;
-        went(state.loaded, push(below, joined(sites, relations, sizes, a, b)))
+        went(
+            state.loaded,
+            push(below, joined(sites, relations, sizes, a, b)),
+        )
     } else {
         refused(state, 11)
     }
