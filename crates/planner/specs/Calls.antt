@@ -34,9 +34,12 @@ pub record Done : Type 0 where
   pub answer : Answer
   pub next : State
 
+abbrev pub doneWith : Answer → State → Done
+doneWith a s = record { answer = a; next = s }
+
 -- A refusal changes no state.
 abbrev pub refusing : ℕ → State → Done
-refusing k s = record { answer = refused k 0; next = s }
+refusing k s = doneWith (refused k 0) s
 
 -- The state with another query and no kept plan.
 abbrev pub standing : Query → State
@@ -45,7 +48,7 @@ standing q = record { query = some q; kept = none }
 -- Load: replaces the query and drops the kept plan; answers n and the number of subqueries.
 abbrev pub loadDecoded : Read Query → State → Done
 loadDecoded (fields.refused k) s = refusing k s
-loadDecoded (value q l) s = record { answer = loaded (relationsOf q) (subqueries (q .joins) (relationsOf q)); next = standing q }
+loadDecoded (value q l) s = doneWith (loaded (relationsOf q) (subqueries (q .joins) (relationsOf q))) (standing q)
 
 unfoldable pub load : List ℕ → State → Done
 load file s = loadDecoded (decode file) s
@@ -82,15 +85,15 @@ relined q l =
 abbrev pub linkQuery : Option Query → Link → State → Done
 linkQuery none l s = refusing 20 s
 linkQuery (some q) l s =
-    pick (sitesListed (sitesOf q) (l .sender) (l .receiver)) (pick (termsInRange (l .terms)) (record { answer = linked; next = standing (relined q l) }) (refusing 3 s)) (refusing 6 s)
+    pick (sitesListed (sitesOf q) (l .sender) (l .receiver)) (pick (termsInRange (l .terms)) (doneWith linked (standing (relined q l))) (refusing 3 s)) (refusing 6 s)
 
 unfoldable pub link : Link → State → Done
 link l s = linkQuery (s .query) l s
 
 -- Solve: keeps the plan and answers its cost and trials, or answers no route with trials and keeps none. Refusals 20, 21.
 abbrev pub solved : Query → Cost → Done
-solved q Cost.none = record { answer = noRoute (trials q); next = standing q }
-solved q (Cost.some c) = record { answer = found c (trials q); next = record { query = some q; kept = some (record { plan = written _+_ q; cost = c }) } }
+solved q Cost.none = doneWith (noRoute (trials q)) (standing q)
+solved q (Cost.some c) = doneWith (found c (trials q)) (record { query = some q; kept = some (record { plan = written _+_ q; cost = c }) })
 
 abbrev pub solveQuery : Option Query → ℕ → State → Done
 solveQuery none cells s = refusing 20 s

@@ -1,19 +1,65 @@
 // The calls. The state goes in by value and comes back by value; a refusal hands back what came in.
 use crate::AfterLink;
 use crate::AfterLoad;
-use crate::AfterSolve;
 use crate::CheckAnswer;
 use crate::LinkAnswer;
 use crate::LoadAnswer;
 use crate::Planner;
 use crate::ReadAnswer;
-use crate::SolveAnswer;
 use query::Charge;
+use query::Outcome;
 use query::Query;
+use rules::Checked;
 ghost use Prim.Native.Nat.{_<_};
 ghost use mathlib.Core.Path.{_≡_};
-ghost use Rattle.planner.specs.Calls.{link, linkOf, sitesListed, termsInRange, relined, readingOf, read};
-ghost use Rattle.planner.specs.Contracts.{stateOf, doneOf, ofLink, ofRead, Sound};
+ghost use Rattle.planner.specs.State.{nothing};
+ghost use Rattle.planner.specs.Calls.{load, link, linkOf, sitesListed, termsInRange, relined, readingOf, read, check};
+ghost use Rattle.planner.specs.Contracts.{stateOf, doneOf, ofLoad, ofLink, ofRead, ofCheck, Sound};
+
+// The empty planner: no query stands and no plan is kept.
+pub fn empty() -> Planner
+    ensures { λ r. ⌜ (stateOf r ≡ nothing) × Sound r ⌝ }
+{
+    Planner {
+        loaded: false,
+        query: query::no_query(),
+        kept: false,
+        cost: Charge(0),
+        length: 0,
+        plan: [0u8; 69],
+    }
+}
+
+// Load: replaces the query and drops the kept plan; answers the number of relations and of subqueries.
+pub fn load(p: Planner, file: &[u8]) -> AfterLoad
+    requires { ⌜ Sound p ⌝ }
+    ensures done { λ r. ⌜ doneOf (ofLoad (r .answer)) (r .planner) ≡ load (now (file .entry)) (stateOf p) ⌝ }
+    ensures sound { λ r. ⌜ Sound (r .planner) ⌝ }
+{
+    let d = query::decode(file);
+    let o = d.outcome;
+    match o {
+        Outcome::Refused(k) => AfterLoad {
+            answer: LoadAnswer::Refused(k),
+            planner: p,
+        },
+        Outcome::Whole => {
+            let q = d.query;
+            AfterLoad {
+                answer: LoadAnswer::Loaded {
+                    relations: q.relations.count as u64,
+                    subqueries: d.subqueries as u64,
+                },
+                planner: Planner {
+                    loaded: true,
+                    query: q,
+                    kept: false,
+                    ..p
+                },
+            }
+        }
+    }
+}
 
 // The two sites of a link are listed, and are two.
 fn sites_listed(s: u64, sender: u64, receiver: u64) -> bool
@@ -101,5 +147,24 @@ pub fn read(p: Planner, output: &mut [u8]) -> ReadAnswer
     ReadAnswer::Wrote {
         length: length as u64,
         cost,
+    }
+}
+
+// Check: answers the plan's cost.
+pub fn check(p: Planner, plan: &[u8]) -> CheckAnswer
+    requires { ⌜ Sound p ⌝ }
+    ensures { λ r. ⌜ ofCheck r ≡ check (now (plan .entry)) (stateOf p) ⌝ }
+{
+    if p.loaded {
+    } else {
+        return CheckAnswer::Refused {
+            number: 20,
+            place: 0,
+        };
+    }
+    let c = rules::check(p.query, plan);
+    match c {
+        Checked::Accepted(cost) => CheckAnswer::Accepted { cost },
+        Checked::Rejected { number, place } => CheckAnswer::Refused { number, place },
     }
 }

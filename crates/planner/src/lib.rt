@@ -1,7 +1,10 @@
 // The planner: the standing state and the calls load, link, solve, read and check.
 mod calls;
 
+pub use calls::check;
+pub use calls::empty;
 pub use calls::link;
+pub use calls::load;
 pub use calls::read;
 use query::Charge;
 use query::Query;
