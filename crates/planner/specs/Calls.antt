@@ -34,9 +34,12 @@ pub record Done : Type 0 where
   pub answer : Answer
   pub next : State
 
+abbrev pub doneWith : Answer → State → Done
+doneWith a s = record { answer = a; next = s }
+
 -- A refusal changes no state.
 abbrev pub refusing : ℕ → State → Done
-refusing k s = record { answer = refused k 0; next = s }
+refusing k s = doneWith (refused k 0) s
 
 -- The state with another query and no kept plan.
 abbrev pub standing : Query → State
@@ -45,7 +48,7 @@ standing q = record { query = some q; kept = none }
 -- Load: replaces the query and drops the kept plan; answers n and the number of subqueries.
 abbrev pub loadDecoded : Read Query → State → Done
 loadDecoded (fields.refused k) s = refusing k s
-loadDecoded (value q l) s = record { answer = loaded (relationsOf q) (subqueries (q .joins) (relationsOf q)); next = standing q }
+loadDecoded (value q l) s = doneWith (loaded (relationsOf q) (subqueries (q .joins) (relationsOf q))) (standing q)
 
 unfoldable pub load : List ℕ → State → Done
 load file s = loadDecoded (decode file) s
@@ -59,9 +62,9 @@ pub record Link : Type 0 where
 abbrev pub linkOf : (sender receiver flag fixed rate : ℕ) → Link
 linkOf a b o f r = record { sender = a; receiver = b; terms = record { flag = o; fixed = f; rate = r } }
 
--- Refusal 6 where it names an unlisted site, or one site twice; refusal 3 where a field is out of range.
-unfoldable pub sitesListed : Query → Link → Bool
-sitesListed q l = (ltb (l .sender) (sitesOf q) && ltb (l .receiver) (sitesOf q)) && not (eqb (l .sender) (l .receiver))
+-- Refusal 6 where it names an unlisted site of the s sites, or one site twice; refusal 3 where a field is out of range.
+unfoldable pub sitesListed : (s sender receiver : ℕ) → Bool
+sitesListed s a b = (ltb a s && ltb b s) && not (eqb a b)
 
 unfoldable pub termsInRange : Terms → Bool
 termsInRange t = (leb (t .flag) 1 && leb (t .fixed) 1_000_000) && leb (t .rate) 1_000
@@ -82,15 +85,15 @@ relined q l =
 abbrev pub linkQuery : Option Query → Link → State → Done
 linkQuery none l s = refusing 20 s
 linkQuery (some q) l s =
-    pick (sitesListed q l) (pick (termsInRange (l .terms)) (record { answer = linked; next = standing (relined q l) }) (refusing 3 s)) (refusing 6 s)
+    pick (sitesListed (sitesOf q) (l .sender) (l .receiver)) (pick (termsInRange (l .terms)) (doneWith linked (standing (relined q l))) (refusing 3 s)) (refusing 6 s)
 
 unfoldable pub link : Link → State → Done
 link l s = linkQuery (s .query) l s
 
 -- Solve: keeps the plan and answers its cost and trials, or answers no route with trials and keeps none. Refusals 20, 21.
 abbrev pub solved : Query → Cost → Done
-solved q Cost.none = record { answer = noRoute (trials q); next = standing q }
-solved q (Cost.some c) = record { answer = found c (trials q); next = record { query = some q; kept = some (record { plan = written _+_ q; cost = c }) } }
+solved q Cost.none = doneWith (noRoute (trials q)) (standing q)
+solved q (Cost.some c) = doneWith (found c (trials q)) (record { query = some q; kept = some (record { plan = written _+_ q; cost = c }) })
 
 abbrev pub solveQuery : Option Query → ℕ → State → Done
 solveQuery none cells s = refusing 20 s
@@ -109,14 +112,17 @@ pub record Reading : Type 0 where
   pub answer : Answer
   pub output : List ℕ
 
+abbrev pub readingOf : Answer → List ℕ → Reading
+readingOf a out = record { answer = a; output = out }
+
 abbrev pub unread : ℕ → List ℕ → Reading
-unread k out = record { answer = refused k 0; output = out }
+unread k out = readingOf (refused k 0) out
 
 abbrev pub readKept : Option Kept → List ℕ → Reading
 readKept none out = unread 22 out
 readKept (some k) out =
     pick (ltb (length out) (length (k .plan))) (unread 23 out)
-    (record { answer = wrote (length (k .plan)) (k .cost); output = k .plan ++ drop (length (k .plan)) out })
+    (readingOf (wrote (length (k .plan)) (k .cost)) (k .plan ++ drop (length (k .plan)) out))
 
 abbrev pub readQuery : Option Query → Option Kept → List ℕ → Reading
 readQuery none k out = unread 20 out

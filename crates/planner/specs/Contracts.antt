@@ -19,7 +19,7 @@ use Rattle.planner.specs.declared.ReadAnswer.the-variants as read-answer
 use Rattle.planner.specs.declared.CheckAnswer.{CheckAnswer}
 use Rattle.planner.specs.declared.CheckAnswer.the-variants as check-answer
 use Rattle.planner.specs.State.{Kept, State}
-use Rattle.planner.specs.Calls.{Answer, loaded, linked, found, noRoute, wrote, allowed, refused}
+use Rattle.planner.specs.Calls.{Answer, Done, doneWith, loaded, linked, found, noRoute, wrote, allowed, refused}
 
 -- The standing state of a planner.
 abbrev pub stateOf : Planner → State
@@ -28,6 +28,10 @@ stateOf p =
       query = pick (p .loaded) (some (p .query)) none;
       kept = pick (p .kept) (some (record { plan = take (p .length) (p .plan); cost = p .cost .0 })) none;
     }
+
+-- An answer and the state of the planner that the call leaves.
+abbrev pub doneOf : Answer → Planner → Done
+doneOf a p = doneWith a (stateOf p)
 
 -- The answers by document 01's numbers and values.
 abbrev pub ofLoad : LoadAnswer → Answer

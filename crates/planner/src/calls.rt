@@ -1,34 +1,24 @@
 // The calls. The state goes in by value and comes back by value; a refusal hands back what came in.
 use crate::AfterLink;
 use crate::AfterLoad;
-use crate::AfterSolve;
 use crate::CheckAnswer;
 use crate::LinkAnswer;
 use crate::LoadAnswer;
 use crate::Planner;
 use crate::ReadAnswer;
-use crate::SolveAnswer;
 use query::Charge;
-use query::Decoded;
 use query::Outcome;
 use query::Query;
 use rules::Checked;
-use tables::Solved;
-ghost use Prim.Native.Nat.{_≤_, _<_};
+ghost use Prim.Native.Nat.{_<_};
 ghost use mathlib.Core.Path.{_≡_};
-ghost use mathlib.Core.Bool.{false};
-ghost use lib.ListN.{length, drop};
 ghost use Rattle.planner.specs.State.{nothing};
-ghost use Rattle.planner.specs.Calls.{load, link, solve, solveAdmitted, read, check, linkOf};
-ghost use Rattle.planner.specs.Contracts.{stateOf, ofLoad, ofLink, ofSolve, ofRead, ofCheck, Sound};
-
-// The cells that solve needs, and the longest plan: a count and 34 steps of two bytes.
-const CELLS: usize = 4096;
+ghost use Rattle.planner.specs.Calls.{load, link, linkOf, sitesListed, termsInRange, relined, readingOf, read, check};
+ghost use Rattle.planner.specs.Contracts.{stateOf, doneOf, ofLoad, ofLink, ofRead, ofCheck, Sound};
 
 // The empty planner: no query stands and no plan is kept.
 pub fn empty() -> Planner
-    ensures state { λ r. ⌜ stateOf r ≡ nothing ⌝ }
-    ensures sound { λ r. ⌜ Sound r ⌝ }
+    ensures { λ r. ⌜ (stateOf r ≡ nothing) × Sound r ⌝ }
 {
     Planner {
         loaded: false,
@@ -43,8 +33,7 @@ pub fn empty() -> Planner
 // Load: replaces the query and drops the kept plan; answers the number of relations and of subqueries.
 pub fn load(p: Planner, file: &[u8]) -> AfterLoad
     requires { ⌜ Sound p ⌝ }
-    ensures answer { λ r. ⌜ ofLoad (r .answer) ≡ load (now (file .entry)) (stateOf p) .answer ⌝ }
-    ensures next { λ r. ⌜ stateOf (r .planner) ≡ load (now (file .entry)) (stateOf p) .next ⌝ }
+    ensures done { λ r. ⌜ doneOf (ofLoad (r .answer)) (r .planner) ≡ load (now (file .entry)) (stateOf p) ⌝ }
     ensures sound { λ r. ⌜ Sound (r .planner) ⌝ }
 {
     let d = query::decode(file);
@@ -56,12 +45,10 @@ pub fn load(p: Planner, file: &[u8]) -> AfterLoad
         },
         Outcome::Whole => {
             let q = d.query;
-            let n = q.relations.count as u64;
-            let m = d.subqueries as u64;
             AfterLoad {
                 answer: LoadAnswer::Loaded {
-                    relations: n,
-                    subqueries: m,
+                    relations: q.relations.count as u64,
+                    subqueries: d.subqueries as u64,
                 },
                 planner: Planner {
                     loaded: true,
@@ -74,114 +61,67 @@ pub fn load(p: Planner, file: &[u8]) -> AfterLoad
     }
 }
 
+// The two sites of a link are listed, and are two.
+fn sites_listed(s: u64, sender: u64, receiver: u64) -> bool
+    ensures { λ r. ⌜ r ≡ sitesListed s sender receiver ⌝ }
+{
+    (sender < s) & (receiver < s) & (sender != receiver)
+}
+
+// The terms of a link are in range.
+fn terms_in_range(opened: u64, fixed: u64, rate: u64) -> bool
+    ensures { λ r. ⌜ r ≡ termsInRange (record { flag = opened; fixed = fixed; rate = rate }) ⌝ }
+{
+    (opened <= 1) & (fixed <= 1000000) & (rate <= 1000)
+}
+
+// The query with the line from the sender to the receiver replaced.
+fn relined(q: Query, sender: u64, receiver: u64, opened: u64, fixed: u64, rate: u64) -> Query
+    requires { ⌜ (sender < 8) × (receiver < 8) ⌝ }
+    ensures { λ r. ⌜ r ≡ relined q (linkOf sender receiver opened fixed rate) ⌝ }
+{
+    let at = 8 * (sender as usize) + (receiver as usize);
+    let mut lines = q.lines;
+    lines.flag[at] = opened;
+    lines.fixed[at] = fixed;
+    lines.rate[at] = rate;
+    Query { lines, ..q }
+}
+
 // Link: replaces the line from the sender to the receiver and drops the kept plan.
 pub fn link(p: Planner, sender: u64, receiver: u64, opened: u64, fixed: u64, rate: u64) -> AfterLink
     requires { ⌜ Sound p ⌝ }
-    ensures answer { λ r. ⌜ ofLink (r .answer) ≡ link (linkOf sender receiver opened fixed rate) (stateOf p) .answer ⌝ }
-    ensures next { λ r. ⌜ stateOf (r .planner) ≡ link (linkOf sender receiver opened fixed rate) (stateOf p) .next ⌝ }
+    ensures done { λ r. ⌜ doneOf (ofLink (r .answer)) (r .planner) ≡ link (linkOf sender receiver opened fixed rate) (stateOf p) ⌝ }
     ensures sound { λ r. ⌜ Sound (r .planner) ⌝ }
 {
-    if p.loaded {} else {
+    if p.loaded {
+    } else {
         return AfterLink {
             answer: LinkAnswer::Refused(20),
             planner: p,
         };
     }
     let q = p.query;
-    let s = q.sites.count as u64;
-    if s <= sender {
+    if sites_listed(q.sites.count as u64, sender, receiver) {
+    } else {
         return AfterLink {
             answer: LinkAnswer::Refused(6),
             planner: p,
         };
     }
-    if s <= receiver {
-        return AfterLink {
-            answer: LinkAnswer::Refused(6),
-            planner: p,
-        };
-    }
-    if sender == receiver {
-        return AfterLink {
-            answer: LinkAnswer::Refused(6),
-            planner: p,
-        };
-    }
-    if 1 < opened {
+    if terms_in_range(opened, fixed, rate) {
+    } else {
         return AfterLink {
             answer: LinkAnswer::Refused(3),
             planner: p,
         };
     }
-    if 1000000 < fixed {
-        return AfterLink {
-            answer: LinkAnswer::Refused(3),
-            planner: p,
-        };
-    }
-    if 1000 < rate {
-        return AfterLink {
-            answer: LinkAnswer::Refused(3),
-            planner: p,
-        };
-    }
-    let at = 8 * (sender as usize) + (receiver as usize);
-    let mut lines = q.lines;
-    lines.flag[at] = opened;
-    lines.fixed[at] = fixed;
-    lines.rate[at] = rate;
     AfterLink {
         answer: LinkAnswer::Linked,
         planner: Planner {
-            query: Query { lines, ..q },
+            query: relined(q, sender, receiver, opened, fixed, rate),
             kept: false,
             ..p
-        },
-    }
-}
-
-// Solve: keeps the cheapest plan and answers its cost and trials, or answers no route with trials and keeps none.
-pub fn solve(p: Planner, cells: &mut [u64]) -> AfterSolve
-    requires { ⌜ Sound p ⌝ }
-    ensures answer { λ r. ⌜ ofSolve (r .answer) ≡ solve (length (now (cells .entry))) (stateOf p) .answer ⌝ }
-    ensures next { λ r. ⌜ stateOf (r .planner) ≡ solve (length (now (cells .entry))) (stateOf p) .next ⌝ }
-    ensures sound { λ r. ⌜ Sound (r .planner) ⌝ }
-    ensures later { λ r. ⌜ drop 4096 (now (cells .exit)) ≡ drop 4096 (now (cells .entry)) ⌝ }
-    ensures refused { λ r. ⌜ (solveAdmitted (stateOf p .query) (length (now (cells .entry))) ≡ false → now (cells .exit) ≡ now (cells .entry)) ⌝ }
-{
-    if p.loaded {} else {
-        return AfterSolve {
-            answer: SolveAnswer::Refused(20),
-            planner: p,
-        };
-    }
-    if cells.len() < CELLS {
-        return AfterSolve {
-            answer: SolveAnswer::Refused(21),
-            planner: p,
-        };
-    }
-    let q = p.query;
-    let mut plan = [0u8; 69];
-    let s = tables::solve(q, cells, &mut plan);
-    match s {
-        Solved::Found {
-            cost,
-            length,
-            trials,
-        } => AfterSolve {
-            answer: SolveAnswer::Found { cost, trials },
-            planner: Planner {
-                kept: true,
-                cost,
-                length,
-                plan,
-                ..p
-            },
-        },
-        Solved::NoRoute { trials } => AfterSolve {
-            answer: SolveAnswer::NoRoute { trials },
-            planner: Planner { kept: false, ..p },
         },
     }
 }
@@ -189,8 +129,7 @@ pub fn solve(p: Planner, cells: &mut [u64]) -> AfterSolve
 // Read: writes the kept plan at the front of the output; answers its length and its cost.
 pub fn read(p: Planner, output: &mut [u8]) -> ReadAnswer
     requires { ⌜ Sound p ⌝ }
-    ensures answer { λ r. ⌜ ofRead r ≡ read (now (output .entry)) (stateOf p) .answer ⌝ }
-    ensures output { λ r. ⌜ now (output .exit) ≡ read (now (output .entry)) (stateOf p) .output ⌝ }
+    ensures { λ r. ⌜ readingOf (ofRead r) (now (output .exit)) ≡ read (now (output .entry)) (stateOf p) ⌝ }
 {
     if p.loaded {} else {
         return ReadAnswer::Refused(20);
@@ -204,9 +143,10 @@ pub fn read(p: Planner, output: &mut [u8]) -> ReadAnswer
     }
     let plan = p.plan;
     bytes::copy(&plan[..length], &mut output[..]);
+    let cost = p.cost;
     ReadAnswer::Wrote {
         length: length as u64,
-        cost: p.cost,
+        cost,
     }
 }
 
@@ -215,7 +155,8 @@ pub fn check(p: Planner, plan: &[u8]) -> CheckAnswer
     requires { ⌜ Sound p ⌝ }
     ensures { λ r. ⌜ ofCheck r ≡ check (now (plan .entry)) (stateOf p) ⌝ }
 {
-    if p.loaded {} else {
+    if p.loaded {
+    } else {
         return CheckAnswer::Refused {
             number: 20,
             place: 0,

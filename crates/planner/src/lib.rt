@@ -6,7 +6,6 @@ pub use calls::empty;
 pub use calls::link;
 pub use calls::load;
 pub use calls::read;
-pub use calls::solve;
 use query::Charge;
 use query::Query;
 

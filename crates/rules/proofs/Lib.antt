@@ -3,3 +3,8 @@ pub mod Links
 pub mod CostIsSum
 pub mod Kept
 pub mod Runs
+pub mod Stacks
+pub mod Rooms
+pub mod Pricing
+pub mod Outcomes
+pub mod Checking

@@ -1,3 +1,4 @@
 pub mod Machine
 pub mod Plans
+pub mod Code
 pub mod Theorems

@@ -1,5 +1,12 @@
-// The plan rules: the stack machine of document 01's "Allowed plans".
+// The plan rules: the stack machine of document 01's "Allowed plans", and the checker that runs a plan on it.
 use query::Charge;
+
+mod plans;
+mod prices;
+mod stacking;
+mod stepping;
+
+pub use plans::check;
 
 // What a held result is: a bare relation, a sent result or a joined result.
 pub enum Origin {
@@ -14,4 +21,34 @@ pub struct Held {
     pub site: usize,
     pub origin: Origin,
     pub figure: Charge,
+}
+
+// The held results: depth of them, the top last. Each relation is loaded at most once, so nine are enough.
+pub struct Stack {
+    pub held: [Held; 9],
+    pub depth: usize,
+}
+
+// The relations loaded so far, as a set, and the held results.
+pub struct State {
+    pub loaded: usize,
+    pub stack: Stack,
+}
+
+// A step goes, or is refused with its number.
+pub enum Outcome {
+    Went,
+    Refused(u64),
+}
+
+// A step's outcome, and the state after it: where the step is refused, the state before it.
+pub struct Stepped {
+    pub outcome: Outcome,
+    pub state: State,
+}
+
+// A plan is accepted at its cost, or rejected with the refusal's number and place.
+pub enum Checked {
+    Accepted(Charge),
+    Rejected { number: u64, place: u64 },
 }

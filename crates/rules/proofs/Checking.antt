@@ -1,0 +1,150 @@
+-- Each way through the checker is a case of the definitions: the end condition, a refused step, a step that goes, and refusal 7.
+use Prim.Native.Nat.{ℕ, zero, suc, _+_, _-_, _*_, _≤_, _<_}
+use mathlib.Core.Path.{_≡_, refl, sym, ap, _∙_}
+use mathlib.Core.Bool.{Bool, true, false, _&&_}
+use mathlib.Core.List.{List, [], _∷_}
+use native.Mathlib.Numerals.{add-one}
+use native.Mathlib.Omega.{arith}
+use lib.ListN.{length, getD, drop, drop-of-length-le}
+use lib.Seq.{drop-cons}
+use lib.Dec.{eqb, leb}
+use borrow.Author.Tests.{le-leb, lt-leb, eq-eqb, ne-eqb}
+use Rattle.relations.specs.Sets.{all}
+use Rattle.query.specs.declared.Query.{Query}
+use Rattle.query.specs.Choice.{pick}
+use Rattle.query.specs.Query.{Valid, relationsOf}
+use Rattle.rules.specs.declared.Held.{Held}
+use Rattle.rules.specs.declared.Stepped.{Stepped}
+use Rattle.rules.specs.declared.Outcome.the-variants.{Went, Refused}
+use Rattle.rules.specs.Machine.{Machine, start, Outcome, went, refused, step}
+use Rattle.rules.specs.Plans.{Step, stepsOf, Verdict, accepted, rejected, after, finish, run, checked}
+use Rattle.rules.specs.Code.{topFirst, machineOf, outcomeOf, numberOf, ofEnd, ofParts, Room, Amounts, Lined, Fair}
+use Rattle.rules.proofs.Outcomes.{step-same}
+use Rattle.rules.proofs.Rooms.{step-room}
+
+pub start-is : (s : List Held) → s ≡ [] → _≡_ {A = Machine} (record { loaded = 0; stack = s }) start
+start-is s e = rw e
+
+-- The end condition.
+alone : (s a : List Held) (d e : ℕ) (h : Held) → s ≡ h ∷ topFirst a d → d + 1 ≡ e → e ≡ 1 → s ≡ h ∷ []
+unfolding topFirst
+alone s a zero e h f p one = f
+alone s a (suc d) e h f p one = absurd (omega arith)
+
+module _ (q : Query) (i : ℕ) (o : Verdict) where
+  pub finish-other : (a : List Held) (d : ℕ) → (d ≡ 1 → ⊥) → o ≡ rejected 12 i → o ≡ finish q i (topFirst a d)
+  unfolding finish topFirst
+  finish-other a zero h e = e
+  finish-other a (suc zero) h e = absurd (h refl)
+  finish-other a (suc (suc d)) h e = e
+
+  pub finish-part : (s a : List Held) (d e w : ℕ) (h : Held) → s ≡ h ∷ topFirst a d → d + 1 ≡ e → e ≡ 1 → w ≡ all (relationsOf q) → (h .set ≡ w → ⊥) →
+      o ≡ rejected 12 i → o ≡ finish q i s
+  unfolding finish
+  finish-part s a d e w h f p one every less r =
+      r ∙ rw (alone s a d e h f p one, ne-eqb (h .set) (all (relationsOf q)) (λ x. less (x ∙ sym every)))
+
+  pub finish-away : (s a : List Held) (d e w : ℕ) (h : Held) → s ≡ h ∷ topFirst a d → d + 1 ≡ e → e ≡ 1 → w ≡ all (relationsOf q) → h .set ≡ w →
+      (h .site ≡ q .target → ⊥) → o ≡ rejected 12 i → o ≡ finish q i s
+  unfolding finish
+  finish-away s a d e w h f p one every full away r =
+      r ∙ rw (alone s a d e h f p one, eq-eqb (h .set) (all (relationsOf q)) (full ∙ every), ne-eqb (h .site) (q .target) away)
+
+pub finish-there : (q : Query) (i : ℕ) (s a : List Held) (d e w : ℕ) (h : Held) → s ≡ h ∷ topFirst a d → d + 1 ≡ e → e ≡ 1 → w ≡ all (relationsOf q) →
+    h .set ≡ w → h .site ≡ q .target → accepted (h .figure .0) ≡ finish q i s
+unfolding finish
+finish-there q i s a d e w h f p one every full there =
+    rw (alone s a d e h f p one, eq-eqb (h .set) (all (relationsOf q)) (full ∙ every), eq-eqb (h .site) (q .target) there)
+
+-- The end condition looks at the number of relations and the query site alone.
+finish-same : (q : Query) (i : ℕ) (s : List Held) → finish (ofEnd (relationsOf q) (q .target)) i s ≡ finish q i s
+unfolding finish
+finish-same q i [] = refl
+finish-same q i (h ∷ []) = refl
+finish-same q i (h ∷ (a ∷ hs)) = refl
+
+-- A valid query's parts are within the limits that a step asks for.
+pub valid-fair : (q : Query) → Valid q → length (q .lines .flag) ≡ 64 → length (q .lines .fixed) ≡ 64 → length (q .lines .rate) ≡ 64 →
+    Fair (q .sites) (q .relations) (q .joins) (q .sizes) (q .lines .flag) (q .lines .fixed) (q .lines .rate)
+valid-fair q v a b c =
+    record {
+      sites-most = v .sites-most;
+      relations-most = v .relations-most;
+      joins-fewer = v .tree .joins;
+      by-line = record { sizes-most = v .sizes-most; fixed-most = v .line-fixed-most; rate-most = v .line-rate-most };
+      by-site = record { sizes-most = v .sizes-most; fixed-most = v .join-fixed-most; rate-most = v .join-rate-most };
+      lined = record { flags = a; fixeds = b; rates = c };
+    }
+
+-- What the code's step gave is the step of kind k and argument a.
+abbrev Took : Query → ℕ → ℕ → Machine → Stepped → Type 0
+Took q k a m s = outcomeOf s ≡ step _+_ (ofParts (q .sites) (q .relations) (q .joins) (q .sizes) (q .lines .flag) (q .lines .fixed) (q .lines .rate)) k a m
+
+-- Two bytes of a plan are its next step.
+two-bytes : (plan : List ℕ) (j k l : ℕ) → suc j ≡ k → suc k ≡ l → k < length plan →
+    stepsOf (drop j plan) ≡ record { kind = getD plan j 0; arg = getD plan k 0 } ∷ stepsOf (drop l plan)
+two-bytes plan j k l e f h = rw (← f, ← e, drop-cons plan j 0 (omega arith), drop-cons plan (suc j) 0 (omega arith))
+
+next-step : (plan : List ℕ) (i n : ℕ) → length plan ≡ 1 + 2 * n → i < n →
+    stepsOf (drop (1 + 2 * i) plan) ≡ record { kind = getD plan (1 + 2 * i) 0; arg = getD plan (2 + 2 * i) 0 } ∷ stepsOf (drop (1 + 2 * (i + 1)) plan)
+next-step plan i n e l = two-bytes plan (1 + 2 * i) (2 + 2 * i) (1 + 2 * (i + 1)) (omega arith) (omega arith) (omega arith)
+
+-- The verdict of the whole plan is that of the steps from i on.
+module _ (q : Query) (plan : List ℕ) (n i : ℕ) (m : Machine) (whole : Verdict) (long : length plan ≡ 1 + 2 * n)
+    (so-far : whole ≡ run _+_ q i (stepsOf (drop (1 + 2 * i) plan)) m) where
+  taken : (s : Stepped) (k a : ℕ) → k ≡ getD plan (1 + 2 * i) 0 → a ≡ getD plan (2 + 2 * i) 0 → Took q k a m s → i < n →
+      whole ≡ after i (outcomeOf s) (run _+_ q (suc i) (stepsOf (drop (1 + 2 * (i + 1)) plan)))
+  unfolding run
+  taken s k a one other e l = so-far ∙ rw (next-step plan i n long l, e, step-same q k a m, one, other)
+
+  pub run-refused : (s : Stepped) (k a r j : ℕ) (o : Verdict) → k ≡ getD plan (1 + 2 * i) 0 → a ≡ getD plan (2 + 2 * i) 0 → Took q k a m s → i < n →
+      s .outcome ≡ Refused r → j ≡ numberOf (s .outcome) → o ≡ rejected j i → o ≡ whole
+  run-refused s k a r j o one other e l f g h =
+      let told : whole ≡ rejected r i = taken s k a one other e l ∙ rw f in
+      let same : j ≡ r = g ∙ ap numberOf f in
+      h ∙ rw same (sym told)
+
+  pub run-again : (s : Stepped) (k a : ℕ) → k ≡ getD plan (1 + 2 * i) 0 → a ≡ getD plan (2 + 2 * i) 0 → Took q k a m s → i < n → s .outcome ≡ Went →
+      whole ≡ run _+_ q (i + 1) (stepsOf (drop (1 + 2 * (i + 1)) plan)) (machineOf (s .state))
+  run-again s k a one other e l f = taken s k a one other e l ∙ rw (f, add-one)
+
+  pub run-ends : (o : Verdict) → n ≤ i → o ≡ finish (ofEnd (relationsOf q) (q .target)) i (m .stack) → o ≡ whole
+  unfolding run
+  run-ends o l e =
+      let none : drop (1 + 2 * i) plan ≡ [] = drop-of-length-le plan {i = 1 + 2 * i} (omega arith) in
+      e ∙ finish-same q i (m .stack) ∙ sym (so-far ∙ rw none)
+
+-- A step that goes keeps the room.
+pub room-again : (q : Query) (k a : ℕ) (m : Machine) (s : Stepped) → Valid q → Room (relationsOf q) m → Took q k a m s → s .outcome ≡ Went →
+    Room (relationsOf q) (machineOf (s .state))
+room-again q k a m s v room e f =
+    let gone : step _+_ q k a m ≡ went (machineOf (s .state)) = sym (e ∙ step-same q k a m) ∙ rw f in
+    rw gone at (step-room q v (record { kind = k; arg = a }) m room)
+
+-- The count byte and the length. Where one is wrong the plan is refused with 7, else it is run.
+module _ (q : Query) (o : Verdict) where
+  pub plan-empty : (plan : List ℕ) → length plan ≡ 0 → o ≡ rejected 7 0 → o ≡ checked _+_ q plan
+  unfolding checked
+  plan-empty [] e r = r
+  plan-empty (c ∷ bytes) e r = absurd (omega arith)
+
+  pub count-low : (plan : List ℕ) (c : ℕ) → c ≡ getD plan 0 0 → c < 1 → o ≡ rejected 7 0 → o ≡ checked _+_ q plan
+  unfolding checked
+  count-low [] c e l r = r
+  count-low (c′ ∷ bytes) c e l r = r ∙ rw (← e, lt-leb 1 c l)
+
+  pub count-high : (plan : List ℕ) (c : ℕ) → c ≡ getD plan 0 0 → 1 ≤ c → 34 < c → o ≡ rejected 7 0 → o ≡ checked _+_ q plan
+  unfolding checked
+  count-high [] c e l h r = r
+  count-high (c′ ∷ bytes) c e l h r = r ∙ rw (← e, le-leb 1 c l, lt-leb c 34 h)
+
+  pub length-other : (plan : List ℕ) (c : ℕ) → c ≡ getD plan 0 0 → 1 ≤ c → c ≤ 34 → (length plan ≡ 1 + 2 * c → ⊥) → o ≡ rejected 7 0 → o ≡ checked _+_ q plan
+  unfolding checked
+  length-other [] c e l h d r = r
+  length-other (c′ ∷ bytes) c e l h d r = r ∙ rw (← e, le-leb 1 c l, le-leb c 34 h, ne-eqb (length bytes) (2 * c) (λ f. d (omega arith)))
+
+  pub plan-whole : (plan : List ℕ) (c : ℕ) → c ≡ getD plan 0 0 → 1 ≤ c → c ≤ 34 → length plan ≡ 1 + 2 * c → o ≡ run _+_ q 0 (stepsOf (drop 1 plan)) start →
+      o ≡ checked _+_ q plan
+  unfolding checked
+  plan-whole [] c e l h f r = absurd (omega arith)
+  plan-whole (c′ ∷ bytes) c e l h f r = r ∙ rw (← e, le-leb 1 c l, le-leb c 34 h, eq-eqb (length bytes) (2 * c) (omega arith))

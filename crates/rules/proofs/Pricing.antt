@@ -1,0 +1,65 @@
+-- What a send and a join make, from the numbers that the code looks up: the prices are the query's, and every number is within its limit.
+use Prim.Native.Nat.{ℕ, _+_, _*_, _^_, _≤_, _<_}
+use mathlib.Core.Path.{_≡_, refl, sym, _∙_}
+use mathlib.Core.Bool.{Bool, _&&_}
+use mathlib.Core.List.{List}
+use native.Mathlib.Omega.{arith}
+use lib.ListN.{length, getD, List·getD-eq-default}
+use lib.Pow.{pow-mono}
+use mir.Syntax.{w64}
+use mir.Val.{Fits}
+use Rattle.relations.specs.declared.Joins.{Joins}
+use Rattle.query.specs.declared.Sites.{Sites}
+use Rattle.query.specs.declared.Relations.{Relations}
+use Rattle.query.specs.declared.Query.{Query}
+use Rattle.query.specs.Query.{UpTo, home, index, lineFixed, lineRate, size, joinFixed, joinRate, relationsOf}
+use Rattle.query.specs.Decode.{noRelations, noJoins}
+use Rattle.query.specs.Prices.{linePrice, reads, joinPrice, indexed}
+use Rattle.query.specs.Indexed.{indexedIn}
+use Rattle.query.proofs.Indexed.{indexed-in}
+use Rattle.rules.specs.declared.Origin.{Origin}
+use Rattle.rules.specs.declared.Origin.the-variants.{Sent, Joined}
+use Rattle.rules.specs.declared.Held.{Held}
+use Rattle.rules.specs.Machine.{charge, isBare, sentTo, spared, joinOf}
+use Rattle.rules.specs.Code.{ofRelations, ofSites}
+
+pub up-to : (limit : ℕ) (l : List ℕ) (i v : ℕ) → UpTo limit l → v ≡ getD l i 0 → v ≤ limit
+up-to limit l i v h e = omega (arith, h i)
+
+pub past-end : (l : List ℕ) (i : ℕ) → length l ≤ i → 0 ≡ getD l i 0
+past-end l i h = sym (List·getD-eq-default l 0 h)
+
+pub no-line : (l : List ℕ) (a b : ℕ) → length l ≡ 64 → 8 ≤ a → 0 ≡ getD l (8 * a + b) 0
+no-line l a b e h = past-end l (8 * a + b) (omega arith)
+
+pub below-512 : (S n : ℕ) → n ≤ 9 → S < 2 ^ n → S < 512
+below-512 S n l h = omega (arith, pow-mono l)
+
+pub spared-is : (R : Relations) (h : Held) (a b : Bool) → R .count ≤ 9 → h .set < 2 ^ R .count → a ≡ isBare (h .origin) →
+    b ≡ indexedIn 9 (R .home) (R .index) (h .set) (h .site) → (a && b) ≡ spared (ofRelations R) h
+unfolding spared
+spared-is R h a b l below e f = rw (e, f, indexed-in (ofRelations R) 9 (h .set) (h .site) below l)
+
+pub sent-is : (q : Query) (h : Held) (t f r z p : ℕ) → f ≡ lineFixed q (h .site) t → r ≡ lineRate q (h .site) t → z ≡ size q (h .set) → p ≡ f + r * z →
+    _≡_ {A = Held} (record { set = h .set; site = t; origin = Sent; figure = charge (h .figure .0 + p) }) (sentTo q t h)
+unfolding linePrice
+sent-is q h t f r z p e1 e2 e3 e4 = rw (e4, e1, e2, e3)
+
+pub sum-below : (a b n : ℕ) → n ≤ 9 → a + b < 2 ^ n → a + b < 512
+sum-below a b n l h = omega (arith, pow-mono l)
+
+pub sum-fits : (a b n : ℕ) → n ≤ 9 → a + b < 2 ^ n → Fits w64 (a + b)
+sum-fits a b n l h = record { fits = omega (arith, pow-mono l) }
+
+pub join-price-is : (q : Query) (k : ℕ) (s : Bool) (a : ℕ) (t : Bool) (b f r x y z g p : ℕ) → x ≡ size q a → y ≡ size q b → z ≡ size q (a + b) → f ≡ joinFixed q k →
+    r ≡ joinRate q k → g ≡ reads s x t y → p ≡ f + r * (g + z) → p ≡ joinPrice q k s a t b
+unfolding joinPrice
+join-price-is q k s a t b f r x y z g p e1 e2 e3 e4 e5 e6 e7 = e7 ∙ rw (e6, e1, e2, e3, e4, e5)
+
+-- The reads look at the relations, the price at the sites and the sizes.
+pub joined-is : (S : Sites) (R : Relations) (J : Joins) (Z : List ℕ) (a b : Held) (x y : Bool) (p : ℕ) → x ≡ spared (ofRelations R) a →
+    y ≡ spared (ofRelations R) b → p ≡ joinPrice (ofSites S (noRelations 0) (noJoins 0) Z) (b .site) x (a .set) y (b .set) →
+    _≡_ {A = Held} (record { set = a .set + b .set; site = b .site; origin = Joined; figure = charge (a .figure .0 + b .figure .0 + p) })
+    (joinOf _+_ (ofSites S R J Z) a b)
+unfolding joinPrice joinFixed joinRate size spared indexed home index
+joined-is S R J Z a b x y p e f g = rw (g, e, f)

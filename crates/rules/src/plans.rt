@@ -1,0 +1,132 @@
+// The checker: a plan is accepted at its own cost exactly when it keeps the rules; else it is rejected with a number and a place.
+use crate::Checked;
+use crate::Outcome;
+use crate::Stack;
+use crate::State;
+use crate::stacking::empty;
+use crate::stacking::pop;
+use crate::stepping::step;
+use query::Query;
+use relations::whole;
+ghost use Prim.Native.Nat.{_+_, _*_, _≤_, _<_};
+ghost use mathlib.Core.Path.{_≡_};
+ghost use lib.ListN.{length, getD, drop};
+ghost use Rattle.query.specs.Query.{Valid};
+ghost use Rattle.rules.specs.Machine.{start};
+ghost use Rattle.rules.specs.Plans.{rejected, stepsOf, finish, run, checked};
+ghost use Rattle.rules.specs.Code.{stackOf, machineOf, numberOf, verdictOf, ofEnd};
+
+// A rejection with its number, at a step or at the count.
+fn rejected(number: u64, place: usize) -> Checked
+    ensures { λ r. ⌜ verdictOf r ≡ rejected number place ⌝ }
+{
+    Checked::Rejected {
+        number,
+        place: place as u64,
+    }
+}
+
+// The number of a step's refusal.
+fn number(outcome: Outcome) -> u64
+    ensures { λ r. ⌜ r ≡ numberOf outcome ⌝ }
+{
+    match outcome {
+        Outcome::Went => 0,
+        Outcome::Refused(k) => k,
+    }
+}
+
+// Nothing is loaded and nothing held.
+fn start() -> State
+    ensures { λ r. ⌜ machineOf r ≡ start ⌝ }
+{
+    State {
+        loaded: 0,
+        stack: empty(),
+    }
+}
+
+// The end condition after i steps: one result is held, with every one of n relations, at the query site.
+fn finish(n: usize, target: usize, stack: Stack, i: usize) -> Checked
+    requires { ⌜ n ≤ 9 ⌝ }
+    ensures { λ r. ⌜ verdictOf r ≡ finish (ofEnd n target) i (stackOf stack) ⌝ }
+{
+    if stack.depth != 1 {
+        return rejected(12, i);
+    }
+    let popped = pop(stack);
+    let top = popped.top;
+    if top.set != whole(n) {
+        return rejected(12, i);
+    }
+    if top.site != target {
+        return rejected(12, i);
+    }
+    let cost = top.figure;
+    Checked::Accepted(cost)
+}
+
+// A byte of a plan.
+fn byte(plan: &[u8], place: usize) -> usize
+    requires { ⌜ place < length (now plan) ⌝ }
+    ensures { λ r. ⌜ (r ≡ getD (now (plan .entry)) place 0) × (r < 256) ⌝ }
+{
+    plan[place] as usize
+}
+
+// The steps of a plan in order, and the end condition.
+fn run(q: Query, plan: &[u8], count: usize) -> Checked
+    requires { ⌜ Valid q × (count ≤ 34) × (length (now plan) ≡ 1 + 2 * count) ⌝ }
+    ensures { λ r. ⌜ verdictOf r ≡ run _+_ q 0 (stepsOf (drop 1 (now (plan .entry)))) start ⌝ }
+{
+    let sites = q.sites;
+    let relations = q.relations;
+    let joins = q.joins;
+    let mut state = start();
+    let mut i = 0;
+    while i < count {
+        let kind = byte(plan, 1 + 2 * i);
+        let arg = byte(plan, 2 + 2 * i);
+        let stepped = step(
+            sites,
+            relations,
+            joins,
+            &q.sizes,
+            &q.lines.flag,
+            &q.lines.fixed,
+            &q.lines.rate,
+            state,
+            kind,
+            arg,
+        );
+        let outcome = stepped.outcome;
+        let Outcome::Went = outcome else {
+            return rejected(number(outcome), i);
+        };
+        state = stepped.state;
+        i += 1;
+    }
+    let stack = state.stack;
+    finish(relations.count, q.target, stack, i)
+}
+
+// A plan's verdict. Refusal 7: the count is outside 1 to 34, or the length isn't 1 + 2 × count. So nothing is read past the plan's end.
+pub fn check(q: Query, plan: &[u8]) -> Checked
+    requires { ⌜ Valid q ⌝ }
+    ensures { λ r. ⌜ verdictOf r ≡ checked _+_ q (now (plan .entry)) ⌝ }
+{
+    if plan.len() == 0 {
+        return rejected(7, 0);
+    }
+    let count = byte(plan, 0);
+    if count < 1 {
+        return rejected(7, 0);
+    }
+    if 34 < count {
+        return rejected(7, 0);
+    }
+    if plan.len() != 1 + 2 * count {
+        return rejected(7, 0);
+    }
+    run(q, plan, count)
+}

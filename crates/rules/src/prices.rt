@@ -1,0 +1,118 @@
+// What a send and a join make of the held results, with their prices.
+use crate::Held;
+use crate::Origin;
+use query::Bytes;
+use query::Charge;
+use query::Relations;
+use query::Sites;
+use query::price;
+ghost use Prim.Native.Nat.{_+_, _*_, _^_, _≤_, _<_};
+ghost use mathlib.Core.Path.{_≡_};
+ghost use mathlib.Core.Bool.{_&&_};
+ghost use mathlib.Core.List.{[]};
+ghost use lib.ListN.{length, getD};
+ghost use Rattle.query.specs.Query.{UpTo};
+ghost use Rattle.query.specs.Decode.{noRelations, noJoins};
+ghost use Rattle.query.specs.Prices.{joinPrice};
+ghost use Rattle.rules.specs.Machine.{isBare, spared, sentTo, joinOf};
+ghost use Rattle.rules.specs.Code.{ofRelations, ofLines, ofSites, Amounts};
+
+// The number at a place of a list, and 0 past its end.
+pub fn at(list: &[u64], i: usize) -> u64
+    ensures { λ r. ⌜ r ≡ getD (now (list .entry)) i 0 ⌝ }
+{
+    if i < list.len() { list[i] } else { 0 }
+}
+
+// The size of a set.
+fn size_at(sizes: &[u64], set: usize) -> Bytes
+    requires { ⌜ (UpTo 1000000000 (now sizes)) ⌝ }
+    ensures { λ r. ⌜ (r .0 ≡ getD (now (sizes .entry)) set 0) × (r .0 ≤ 1000000000) ⌝ }
+{
+    Bytes(at(sizes, set))
+}
+
+// The number that a list over all lines has for the line from a to b.
+pub fn line_at(list: &[u64], a: usize, b: usize) -> u64
+    requires { ⌜ (length (now list) ≡ 64) × (b < 8) ⌝ }
+    ensures { λ r. ⌜ r ≡ getD (now (list .entry)) (8 * a + b) 0 ⌝ }
+{
+    if a < 8 { list[8 * a + b] } else { 0 }
+}
+
+// The top as it arrives at t.
+pub fn sent<'a>(sizes: &'a [u64], fixed: &'a [u64], rate: &'a [u64], top: Held, t: usize) -> Held
+    requires { ⌜ Amounts (now sizes) (now fixed) (now rate) ⌝ }
+    requires { ⌜ (length (now fixed) ≡ 64) × (length (now rate) ≡ 64) × (t < 8) × (top .figure .0 ≤ 4000000000000000) ⌝ }
+    ensures { λ r. ⌜ r ≡ sentTo (ofLines 0 (now (sizes .entry)) [] (now (fixed .entry)) (now (rate .entry))) t top ⌝ }
+{
+    let from = top.site;
+    let size = size_at(sizes, top.set);
+    let line = Charge(line_at(fixed, from, t));
+    let price = price::line_price(line, line_at(rate, from, t), size);
+    Held {
+        set: top.set,
+        site: t,
+        origin: Origin::Sent,
+        figure: Charge(top.figure.0 + price.0),
+    }
+}
+
+// A result is a bare relation.
+fn is_bare(origin: Origin) -> bool
+    ensures { λ r. ⌜ r ≡ isBare origin ⌝ }
+{
+    match origin {
+        Origin::Bare => true,
+        Origin::Sent => false,
+        Origin::Joined => false,
+    }
+}
+
+// The read of a held result is spared.
+fn is_spared(relations: Relations, h: Held) -> bool
+    requires { ⌜ (relations .count ≤ 9) × (h .set < 2 ^ relations .count) ⌝ }
+    ensures { λ r. ⌜ r ≡ spared (ofRelations relations) h ⌝ }
+{
+    let origin = h.origin;
+    let indexed = price::is_indexed(&relations.home, &relations.index, h.set, h.site);
+    is_bare(origin) & indexed
+}
+
+// The price of joining sets a and b at a site, with whether the reads of each are spared.
+fn join_price(
+    sites: Sites,
+    sizes: &[u64],
+    site: usize,
+    one: bool,
+    a: usize,
+    other: bool,
+    b: usize,
+) -> Charge
+    requires { ⌜ Amounts (now sizes) (sites .fixed) (sites .rate) × (a + b < 512) ⌝ }
+    ensures { λ r. ⌜ (r .0 ≡ joinPrice (ofSites sites (noRelations 0) (noJoins 0) (now (sizes .entry))) site one a other b) × (r .0 ≤ 3000001000000) ⌝ }
+{
+    let read = price::reads(one, size_at(sizes, a), other, size_at(sizes, b));
+    let result = size_at(sizes, a + b);
+    let fixed = Charge(at(&sites.fixed, site));
+    let rate = at(&sites.rate, site);
+    price::join_price(fixed, rate, read, result)
+}
+
+// What joining a and b, at the site of both, makes.
+pub fn joined(sites: Sites, relations: Relations, sizes: &[u64], a: Held, b: Held) -> Held
+    requires { ⌜ Amounts (now sizes) (sites .fixed) (sites .rate) ⌝ }
+    requires { ⌜ (relations .count ≤ 9) × (a .set + b .set < 2 ^ relations .count) × (a .figure .0 + b .figure .0 ≤ 4000000000000000) ⌝ }
+    ensures { λ r. ⌜ r ≡ joinOf _+_ (ofSites sites relations (noJoins 0) (now (sizes .entry))) a b ⌝ }
+{
+    let one = is_spared(relations, a);
+    let other = is_spared(relations, b);
+    let site = b.site;
+    let price = join_price(sites, sizes, site, one, a.set, other, b.set);
+    Held {
+        set: a.set + b.set,
+        site,
+        origin: Origin::Joined,
+        figure: Charge(a.figure.0 + b.figure.0 + price.0),
+    }
+}

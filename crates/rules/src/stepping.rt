@@ -1,0 +1,196 @@
+// One step of a plan: load, send and join, with refusals 8 to 11.
+use crate::Held;
+use crate::Origin;
+use crate::Outcome;
+use crate::Stack;
+use crate::State;
+use crate::Stepped;
+use crate::prices::at;
+use crate::prices::joined;
+use crate::prices::line_at;
+use crate::prices::sent;
+use crate::stacking::pop;
+use crate::stacking::pop_two;
+use crate::stacking::push;
+use query::Charge;
+use query::Relations;
+use query::Sites;
+use relations::Joins;
+use relations::bit;
+use relations::single;
+ghost use Prim.Native.Nat.{_+_, _*_, _≤_, _<_};
+ghost use mathlib.Core.Path.{_≡_};
+ghost use mathlib.Core.Bool.{_&&_, not};
+ghost use lib.Dec.{eqb};
+ghost use lib.ListN.{length, getD};
+ghost use Rattle.rules.specs.Machine.{load, send, join, step, links, isSent, went, refused};
+ghost use Rattle.rules.specs.Code.{machineOf, stackOf, outcomeOf, Room, Amounts, Lined, Fair, ofRelations, ofLines, ofSites, ofParts};
+
+// A step that goes, to the state after it.
+fn went(loaded: usize, stack: Stack) -> Stepped
+    ensures { λ r. ⌜ outcomeOf r ≡ went (record { loaded = loaded; stack = stackOf stack }) ⌝ }
+{
+    Stepped {
+        outcome: Outcome::Went,
+        state: State { loaded, stack },
+    }
+}
+
+// A refused step: the state is as it was.
+fn refused(state: State, number: u64) -> Stepped
+    ensures { λ r. ⌜ outcomeOf r ≡ refused number ⌝ }
+{
+    Stepped {
+        outcome: Outcome::Refused(number),
+        state,
+    }
+}
+
+// 1, load r: puts r, at its home, on top. Each relation at most once.
+fn load(relations: Relations, state: State, r: usize) -> Stepped
+    requires { ⌜ (relations .count ≤ 9) × Room (relations .count) (machineOf state) ⌝ }
+    ensures { λ out. ⌜ outcomeOf out ≡ load (ofRelations relations) r (machineOf state) ⌝ }
+{
+    if relations.count <= r {
+        return refused(state, 8);
+    }
+    let loaded = state.loaded;
+    if bit(loaded, r) != 0 {
+        return refused(state, 9);
+    }
+    let set = single(r);
+    let bare = Held {
+        set,
+        site: relations.home[r],
+        origin: Origin::Bare,
+        figure: Charge(0),
+    };
+    let stack = state.stack;
+    went(loaded + set, push(stack, bare))
+}
+
+// A result was made by a send.
+fn is_sent(origin: Origin) -> bool
+    ensures { λ r. ⌜ r ≡ isSent origin ⌝ }
+{
+    match origin {
+        Origin::Bare => false,
+        Origin::Sent => true,
+        Origin::Joined => false,
+    }
+}
+
+// The top may be sent to t: it stands elsewhere, the line is open, and it was not made by a send.
+fn may_send(flag: &[u64], top: Held, t: usize) -> bool
+    requires { ⌜ (length (now flag) ≡ 64) × (t < 8) ⌝ }
+    ensures { λ r. ⌜ r ≡ ((not (eqb (top .site) t) && eqb (getD (now (flag .entry)) (8 * top .site + t) 0) 1) && not (isSent (top .origin))) ⌝ }
+{
+    let from = top.site;
+    let origin = top.origin;
+    let opened = line_at(flag, from, t) == 1;
+    (from != t) & opened & !is_sent(origin)
+}
+
+// 2, send to t: moves the top to t.
+fn send<'a>(
+    count: usize,
+    sizes: &'a [u64],
+    flag: &'a [u64],
+    fixed: &'a [u64],
+    rate: &'a [u64],
+    state: State,
+    t: usize,
+) -> Stepped
+    requires { ⌜ (count ≤ 8) × Amounts (now sizes) (now fixed) (now rate) × Lined (now flag) (now fixed) (now rate) × Room 9 (machineOf state) ⌝ }
+    ensures { λ out. ⌜ outcomeOf out ≡ send (ofLines count (now (sizes .entry)) (now (flag .entry)) (now (fixed .entry)) (now (rate .entry))) t (machineOf state) ⌝ }
+{
+    if count <= t {
+        return refused(state, 8);
+    }
+    let stack = state.stack;
+    if stack.depth < 1 {
+        return refused(state, 10);
+    }
+    let popped = pop(stack);
+    let top = popped.top;
+    if may_send(flag, top, t) {
+        let below = popped.rest;
+        went(state.loaded, push(below, sent(sizes, fixed, rate, top, t)))
+    } else {
+        refused(state, 10)
+    }
+}
+
+// a and b may be joined by e: they stand at one site that may join, with one end of e in each.
+fn may_join(sites: Sites, joins: Joins, a: Held, b: Held, e: usize) -> bool
+    requires { ⌜ e < 8 ⌝ }
+    ensures { λ r. ⌜ r ≡ ((eqb (a .site) (b .site) && eqb (getD (sites .may) (b .site) 0) 1) && links joins e (a .set) (b .set)) ⌝ }
+{
+    let f = joins.first[e];
+    let s = joins.second[e];
+    let linked = (bit(a.set, f) + bit(b.set, s) == 2) | (bit(a.set, s) + bit(b.set, f) == 2);
+    let site = b.site;
+    (a.site == site) & (at(&sites.may, site) == 1) & linked
+}
+
+// 3, join e: the top two become one.
+fn join(
+    sites: Sites,
+    relations: Relations,
+    joins: Joins,
+    sizes: &[u64],
+    state: State,
+    e: usize,
+) -> Stepped
+    requires { ⌜ (relations .count ≤ 9) × (joins .count + 1 ≡ relations .count) ⌝ }
+    requires { ⌜ Amounts (now sizes) (sites .fixed) (sites .rate) × Room (relations .count) (machineOf state) ⌝ }
+    ensures { λ out. ⌜ outcomeOf out ≡ join _+_ (ofSites sites relations joins (now (sizes .entry))) e (machineOf state) ⌝ }
+{
+    if joins.count <= e {
+        return refused(state, 8);
+    }
+    let stack = state.stack;
+    if stack.depth < 2 {
+        return refused(state, 11);
+    }
+    let popped = pop_two(stack);
+    let a = popped.next;
+    let b = popped.top;
+    if may_join(sites, joins, a, b, e) {
+        let below = popped.rest;
+        went(
+            state.loaded,
+            push(below, joined(sites, relations, sizes, a, b)),
+        )
+    } else {
+        refused(state, 11)
+    }
+}
+
+// A step by its kind and argument. Refusal 8: unknown kind, or argument not in the query.
+pub fn step<'a>(
+    sites: Sites,
+    relations: Relations,
+    joins: Joins,
+    sizes: &'a [u64],
+    flag: &'a [u64],
+    fixed: &'a [u64],
+    rate: &'a [u64],
+    state: State,
+    kind: usize,
+    arg: usize,
+) -> Stepped
+    requires { ⌜ Fair sites relations joins (now sizes) (now flag) (now fixed) (now rate) × Room (relations .count) (machineOf state) ⌝ }
+    ensures { λ out. ⌜ outcomeOf out ≡ step _+_ (ofParts sites relations joins (now (sizes .entry)) (now (flag .entry)) (now (fixed .entry)) (now (rate .entry))) kind arg (machineOf state) ⌝ }
+{
+    if kind == 1 {
+        return load(relations, state, arg);
+    }
+    if kind == 2 {
+        return send(sites.count, sizes, flag, fixed, rate, state, arg);
+    }
+    if kind == 3 {
+        return join(sites, relations, joins, sizes, state, arg);
+    }
+    refused(state, 8)
+}
