@@ -6,8 +6,8 @@ use borrow.Author.Needs.{needs}
 use Rattle.query.specs.Fields.{items}
 use Rattle.query.specs.Decode.{line, sender}
 use Rattle.query.proofs.LineLaws.{line-on, of-sender}
-use Rattle.query.proofs.sections.read_sender.Statement.{statement}
-use Rattle.query.proofs.sections.read_sender.Tie as tie
+use Rattle.query.proofs.line_section.read_sender.Statement.{statement}
+use Rattle.query.proofs.line_section.read_sender.Tie as tie
 
 abbrev Inv-loop : tie.InvT-loop
 Inv-loop part s a lines₀ at₀ b₀ lines at b = (b ≤ s) × ((at ≤ 9 * b) × (sender s a lines₀ part ≡ items (line a) (s - b) b lines (drop at part)))

@@ -6,8 +6,8 @@ use borrow.Author.Needs.{needs}
 use Rattle.query.specs.Fields.{items}
 use Rattle.query.specs.Decode.{sender, linesSection}
 use Rattle.query.proofs.LineLaws.{pairs-fit, sender-on, of-lines}
-use Rattle.query.proofs.sections.read_lines.Statement.{statement}
-use Rattle.query.proofs.sections.read_lines.Tie as tie
+use Rattle.query.proofs.line_section.read_lines.Statement.{statement}
+use Rattle.query.proofs.line_section.read_lines.Tie as tie
 
 abbrev Inv-loop : tie.InvT-loop
 Inv-loop part s due lines₀ at₀ a₀ lines at a = (a ≤ s) × ((at ≤ 1 + 72 * a) × (linesSection s part ≡ items (sender s) (s - a) a lines (drop at part)))
