@@ -1,18 +1,21 @@
 -- What the sections keep to once they are read whole: the counts of sites, relations and joins, and that each join links two of the relations.
-use Prim.Native.Nat.{ℕ, zero, suc, _+_, _-_, _≤_, _<_}
+use Prim.Native.Nat.{ℕ, zero, suc, _+_, _-_, _≤_}
 use native.Mathlib.Omega.{arith}
-use mathlib.Core.Path.{_≡_, refl, sym, ap, subst, _∙_}
-use mathlib.Core.Bool.{true}
+use mathlib.Core.Path.{_≡_, refl, sym, subst, _∙_}
+use mathlib.Core.Bool.{Bool, true}
 use mathlib.Core.List.{List, [], _∷_}
-use lib.ListN.{getD, set, drop, replicate}
+use lib.ListN.{set, drop, replicate}
 use Rattle.relations.specs.declared.Joins.{Joins}
 use Rattle.relations.specs.Trees.{Tree, reaches}
 use Rattle.relations.specs.Code.{Drawn}
 use Rattle.query.specs.declared.Sites.{Sites}
 use Rattle.query.specs.declared.Relations.{Relations}
-use Rattle.query.specs.Fields.{Read, refused, value, andThen, byteBelow, items}
-use Rattle.query.specs.Decode.{Terms, Two, terms, two, site, sitesSection, withSite, relation, relationsSection, withRelation, join, joinsSection, withJoin}
+use Rattle.query.specs.Fields.{Read, value, andThen, byteBelow, items}
+use Rattle.query.specs.Decode.{Two, terms, two, site, sitesSection, withSite, relation, relationsSection, withRelation, join, joinsSection, withJoin}
+use Rattle.query.specs.declared.sections.Outcome.{Outcome}
+use Rattle.query.specs.declared.sections.Outcome.the-variants.{Whole}
 use Rattle.query.specs.Query.{UpTo}
+use Rattle.query.specs.Code.{readOf}
 use Rattle.query.proofs.Reading.{Held, field-held, Both, both-read}
 use Rattle.query.proofs.Loops.{items-keep}
 
@@ -88,12 +91,20 @@ joins-kept n l r J e =
     (x .a) 0 _ (x .mid) J r (x .then) (record { count = m; firsts = zeros-up-to (n - 1) 8; seconds = zeros-up-to (n - 1) 8 })
 
 -- So they can be grown along, and where they reach every relation they make a tree.
-module _ (n : ℕ) (J : Joins) (k : JoinsKept n J) (some : 1 ≤ n) where
+module _ (n : ℕ) (J : Joins) (k : JoinsKept n J) (range : (1 ≤ n) × (n ≤ 9)) where
   pub kept-count : J .count + 1 ≡ n
   kept-count = omega (arith, k .count)
 
-  pub kept-drawn : n ≤ 9 → Drawn J
-  kept-drawn h = record { few = omega (arith, k .count); first-in = λ e l. omega (arith, k .count, k .firsts e); second-in = λ e l. omega (arith, k .count, k .seconds e) }
+  pub kept-drawn : Drawn J
+  kept-drawn = record { few = omega (arith, k .count); first-in = λ e l. omega (arith, k .count, k .firsts e); second-in = λ e l. omega (arith, k .count, k .seconds e) }
 
-  pub kept-tree : reaches J (J .count + 1) ≡ true → Tree J (J .count + 1)
-  kept-tree h = record { joins = refl; first-in = λ e l. omega (arith, k .count, k .firsts e); second-in = λ e l. omega (arith, k .count, k .seconds e); reached = h }
+  pub kept-tree : (b : Bool) → b ≡ reaches J (J .count + 1) → b ≡ true → (J .count ≤ 8) × Tree J (J .count + 1)
+  kept-tree b t h =
+      (kept-drawn .few, record { joins = refl; first-in = kept-drawn .first-in; second-in = kept-drawn .second-in; reached = sym t ∙ h })
+
+-- The same of a section's answer.
+module _ {A : Type 0} (x : Read A) (o : Outcome) (a : A) (used : ℕ) (l : List ℕ) where
+  pub whole : readOf o a used l ≡ x → o ≡ Whole → x ≡ value a (drop used l)
+  whole e h =
+      let f : value a (drop used l) ≡ x = rw h at e in
+      sym f

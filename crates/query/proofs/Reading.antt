@@ -1,5 +1,5 @@
 -- Readings of fields: what a field gives by its tests, and that what follows a field's value is the part behind its bytes.
-use Prim.Native.Nat.{ℕ, zero, suc, _+_, _-_, _*_, _≤_, _<_}
+use Prim.Native.Nat.{ℕ, _≤_, _<_}
 use mathlib.Core.Path.{_≡_, refl, sym, ap, _∙_}
 use mathlib.Core.Bool.{Bool, true, false, _&&_}
 use mathlib.Core.List.{List, []}
@@ -94,22 +94,11 @@ field-value w fault low high v l f e h =
 pub field-no : (x : Read ℕ) (n k : ℕ) (f : Field) → n ≡ faultOf f → f ≡ Refused k → f ≡ fieldOf x → x ≡ refused n
 field-no x n k f e h g = read-by x f (Refused k) g h ∙ ap refused (sym (e ∙ ap faultOf h))
 
--- The range that a value was judged by.
-module _ (w fault low high v : ℕ) (l : List ℕ) (f : Field) (e : f ≡ fieldOf (field w fault low high l)) (h : f ≡ Value v) where
-  pub field-least : low ≤ v
-  field-least = field-held w fault low high v l _ (field-value w fault low high v l f e h) .low-most
+-- The limit that a value was judged by.
+pub field-most : (w fault low high v : ℕ) (l : List ℕ) (f : Field) → f ≡ fieldOf (field w fault low high l) → f ≡ Value v → v ≤ high
+field-most w fault low high v l f e h = field-held w fault low high v l _ (field-value w fault low high v l f e h) .high-most
 
-  pub field-most : v ≤ high
-  field-most = field-held w fault low high v l _ (field-value w fault low high v l f e h) .high-most
-
--- A reading after another: by what the first one gave, and back.
-module _ {A B : Type 0} (x : Read A) (next : A → List ℕ → Read B) where
-  pub then-no : (k : ℕ) → x ≡ refused k → andThen x next ≡ refused k
-  then-no k e = rw e
-
-  pub then-on : (a : A) (r : List ℕ) → x ≡ value a r → andThen x next ≡ next a r
-  then-on a r e = rw e
-
+-- A reading after another that has a value: what the first one gave, and what the second one did with it.
 pub record Both {A B : Type 0} (x : Read A) (next : A → List ℕ → Read B) (b : B) (r : List ℕ) : Type 0 where
   pub a : A
   pub mid : List ℕ

@@ -1,8 +1,7 @@
 -- The two kinds of items, terms and two bytes: what the code's answers say of them, and that each uses a fixed number of bytes, nine and two.
-use Prim.Native.Nat.{ℕ, zero, suc, _+_, _-_, _*_, _≤_, _<_}
+use Prim.Native.Nat.{ℕ, _-_}
 use mathlib.Core.Path.{_≡_, refl, sym, ap, _∙_}
 use mathlib.Core.List.{List}
-use native.Mathlib.Omega.{arith}
 use lib.ListN.{drop}
 use lib.Seq.{drop-drop}
 use Rattle.query.specs.declared.fields.Field.{Field}
@@ -11,7 +10,7 @@ use Rattle.query.specs.declared.items.TermsRead.{TermsRead}
 use Rattle.query.specs.declared.items.TermsRead.the-variants as of-terms
 use Rattle.query.specs.declared.items.TwoRead.{TwoRead}
 use Rattle.query.specs.declared.items.TwoRead.the-variants as of-two
-use Rattle.query.specs.Fields.{Read, refused, value, andThen, byteBelow, amountUpTo}
+use Rattle.query.specs.Fields.{Read, refused, value, byteBelow, amountUpTo}
 use Rattle.query.specs.Decode.{Terms, Two, terms, two}
 use Rattle.query.specs.Code.{fieldOf, faultOf, termsOf, termsFault, twoOf, twoFault}
 use Rattle.query.proofs.Reading.{left, field-held, field-value, field-no, Both, both-read}

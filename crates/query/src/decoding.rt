@@ -1,14 +1,14 @@
 // The whole query file: its sections in reading order, the tree test after the last join, and nothing after Delivery.
 use crate::Query;
 use crate::fields::part_from;
+use crate::line_section::no_lines;
+use crate::line_section::read_lines;
 use crate::sections::Outcome;
 use crate::sections::no_joins;
-use crate::sections::no_lines;
 use crate::sections::no_relations;
 use crate::sections::no_sites;
 use crate::sections::read_delivery;
 use crate::sections::read_joins;
-use crate::sections::read_lines;
 use crate::sections::read_relations;
 use crate::sections::read_sites;
 use crate::sizes::read_sizes;

@@ -2,6 +2,7 @@
 mod decoding;
 mod fields;
 mod items;
+mod line_section;
 mod sections;
 mod sizes;
 

@@ -1,5 +1,4 @@
-// The sections of the query file but Sizes, each read from the part of the file that starts where the last one ended.
-use crate::Lines;
+// The sections Sites, Relations, Joins and Delivery, each read from the part of the file that starts where the last one ended.
 use crate::Relations;
 use crate::Sites;
 use crate::fields::Field;
@@ -14,9 +13,9 @@ use crate::items::read_two;
 use crate::items::terms_fault;
 use crate::items::two_fault;
 use relations::Joins;
-ghost use Prim.Native.Nat.{_+_, _-_, _≤_, _<_};
+ghost use Prim.Native.Nat.{_≤_};
 ghost use mathlib.Core.Path.{_≡_};
-ghost use Rattle.query.specs.Decode.{noSites, noRelations, noJoins, noLines, sitesSection, relationsSection, joinsSection, sender, linesSection, deliverySection};
+ghost use Rattle.query.specs.Decode.{noSites, noRelations, noJoins, sitesSection, relationsSection, joinsSection, deliverySection};
 ghost use Rattle.query.specs.Code.{readOf};
 
 // How a section's reading ended: with all of it, or with the number of the first refusal.
@@ -25,6 +24,7 @@ pub enum Outcome {
     Refused(u64),
 }
 
+// What each section's reading gives: how it ended, how many bytes it used, and what it read.
 pub struct SitesRead {
     pub outcome: Outcome,
     pub used: usize,
@@ -41,12 +41,6 @@ pub struct JoinsRead {
     pub outcome: Outcome,
     pub used: usize,
     pub joins: Joins,
-}
-
-pub struct LinesRead {
-    pub outcome: Outcome,
-    pub used: usize,
-    pub lines: Lines,
 }
 
 pub struct DeliveryRead {
@@ -83,16 +77,6 @@ pub fn no_joins(count: usize) -> Joins
         count,
         first: [0; 8],
         second: [0; 8],
-    }
-}
-
-pub fn no_lines() -> Lines
-    ensures { λ r. ⌜ r ≡ noLines ⌝ }
-{
-    Lines {
-        flag: [0; 64],
-        fixed: [0; 64],
-        rate: [0; 64],
     }
 }
 
@@ -202,74 +186,6 @@ pub fn read_joins(part: &[u8], n: usize) -> JoinsRead
         outcome: Outcome::Whole,
         used: 1 + 2 * i,
         joins,
-    }
-}
-
-// The lines of sender a to each receiver of s sites but itself: open flag, fixed amount, rate.
-fn read_sender(part: &[u8], s: usize, a: usize, kept: Lines) -> LinesRead
-    requires { ⌜ (s ≤ 8) × (a < 8) ⌝ }
-    ensures { λ r. ⌜ (readOf (r .outcome) (r .lines) (r .used) (now (part .entry)) ≡ sender s a kept (now (part .entry))) × (r .used ≤ 72) ⌝ }
-{
-    let mut lines = kept;
-    let mut at = 0;
-    let mut b = 0;
-    while b < s {
-        let next = b + 1;
-        if a != b {
-            let t = read_terms(part_from(part, at));
-            let TermsRead::Terms { flag, fixed, rate } = t else {
-                return LinesRead {
-                    outcome: Outcome::Refused(terms_fault(t)),
-                    used: 0,
-                    lines,
-                };
-            };
-            let i = 8 * a + b;
-            lines.flag[i] = flag;
-            lines.fixed[i] = fixed;
-            lines.rate[i] = rate;
-            at += 9;
-        }
-        b = next;
-    }
-    LinesRead {
-        outcome: Outcome::Whole,
-        used: at,
-        lines,
-    }
-}
-
-// Lines of s sites, by sender.
-pub fn read_lines(part: &[u8], s: usize) -> LinesRead
-    requires { ⌜ (1 ≤ s) × (s ≤ 8) ⌝ }
-    ensures { λ r. ⌜ readOf (r .outcome) (r .lines) (r .used) (now (part .entry)) ≡ linesSection s (now (part .entry)) ⌝ }
-{
-    let due = (s * (s - 1)) as u64;
-    let c = count_field(part, due, due);
-    let mut lines = no_lines();
-    let Field::Value(_) = c else {
-        return LinesRead {
-            outcome: Outcome::Refused(fault(c)),
-            used: 0,
-            lines,
-        };
-    };
-    let mut at = 1;
-    let mut a = 0;
-    while a < s {
-        let r = read_sender(part_from(part, at), s, a, lines);
-        let o = r.outcome;
-        let Outcome::Whole = o else {
-            return r;
-        };
-        lines = r.lines;
-        at += r.used;
-        a += 1;
-    }
-    LinesRead {
-        outcome: Outcome::Whole,
-        used: at,
-        lines,
     }
 }
 
