@@ -18,7 +18,7 @@ use Rattle.rules.specs.declared.Stepped.{Stepped}
 use Rattle.rules.specs.declared.Outcome.the-variants.{Went, Refused}
 use Rattle.rules.specs.Machine.{Machine, start, Outcome, went, refused, step}
 use Rattle.rules.specs.Plans.{Step, stepsOf, Verdict, accepted, rejected, after, finish, run, checked}
-use Rattle.rules.specs.Code.{topFirst, machineOf, outcomeOf, numberOf, ofEnd, ofParts, Room, Amounts, Lined, Fair}
+use Rattle.rules.specs.Code.{topFirst, machineOf, outcomeOf, numberOf, ofEnd, ofParts, Room}
 use Rattle.rules.proofs.Outcomes.{step-same}
 use Rattle.rules.proofs.Rooms.{step-room}
 
@@ -62,19 +62,6 @@ unfolding finish
 finish-same q i [] = refl
 finish-same q i (h ∷ []) = refl
 finish-same q i (h ∷ (a ∷ hs)) = refl
-
--- A valid query's parts are within the limits that a step asks for.
-pub valid-fair : (q : Query) → Valid q → length (q .lines .flag) ≡ 64 → length (q .lines .fixed) ≡ 64 → length (q .lines .rate) ≡ 64 →
-    Fair (q .sites) (q .relations) (q .joins) (q .sizes) (q .lines .flag) (q .lines .fixed) (q .lines .rate)
-valid-fair q v a b c =
-    record {
-      sites-most = v .sites-most;
-      relations-most = v .relations-most;
-      joins-fewer = v .tree .joins;
-      by-line = record { sizes-most = v .sizes-most; fixed-most = v .line-fixed-most; rate-most = v .line-rate-most };
-      by-site = record { sizes-most = v .sizes-most; fixed-most = v .join-fixed-most; rate-most = v .join-rate-most };
-      lined = record { flags = a; fixeds = b; rates = c };
-    }
 
 -- What the code's step gave is the step of kind k and argument a.
 abbrev Took : Query → ℕ → ℕ → Machine → Stepped → Type 0

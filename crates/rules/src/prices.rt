@@ -18,7 +18,7 @@ ghost use Rattle.rules.specs.Machine.{isBare, spared, sentTo, joinOf};
 ghost use Rattle.rules.specs.Code.{ofRelations, ofLines, ofSites, Amounts};
 
 // The number at a place of a list, and 0 past its end.
-pub fn at(list: &[u64], i: usize) -> u64
+pub(crate) fn at(list: &[u64], i: usize) -> u64
     ensures { λ r. ⌜ r ≡ getD (now (list .entry)) i 0 ⌝ }
 {
     if i < list.len() { list[i] } else { 0 }
@@ -33,7 +33,7 @@ fn size_at(sizes: &[u64], set: usize) -> Bytes
 }
 
 // The number that a list over all lines has for the line from a to b.
-pub fn line_at(list: &[u64], a: usize, b: usize) -> u64
+pub(crate) fn line_at(list: &[u64], a: usize, b: usize) -> u64
     requires { ⌜ (length (now list) ≡ 64) × (b < 8) ⌝ }
     ensures { λ r. ⌜ r ≡ getD (now (list .entry)) (8 * a + b) 0 ⌝ }
 {
@@ -41,7 +41,13 @@ pub fn line_at(list: &[u64], a: usize, b: usize) -> u64
 }
 
 // The top as it arrives at t.
-pub fn sent<'a>(sizes: &'a [u64], fixed: &'a [u64], rate: &'a [u64], top: Held, t: usize) -> Held
+pub(crate) fn sent<'a>(
+    sizes: &'a [u64],
+    fixed: &'a [u64],
+    rate: &'a [u64],
+    top: Held,
+    t: usize,
+) -> Held
     requires { ⌜ Amounts (now sizes) (now fixed) (now rate) ⌝ }
     requires { ⌜ (length (now fixed) ≡ 64) × (length (now rate) ≡ 64) × (t < 8) × (top .figure .0 ≤ 4000000000000000) ⌝ }
     ensures { λ r. ⌜ r ≡ sentTo (ofLines 0 (now (sizes .entry)) [] (now (fixed .entry)) (now (rate .entry))) t top ⌝ }
@@ -100,7 +106,7 @@ fn join_price(
 }
 
 // What joining a and b, at the site of both, makes.
-pub fn joined(sites: Sites, relations: Relations, sizes: &[u64], a: Held, b: Held) -> Held
+pub(crate) fn joined(sites: Sites, relations: Relations, sizes: &[u64], a: Held, b: Held) -> Held
     requires { ⌜ Amounts (now sizes) (sites .fixed) (sites .rate) ⌝ }
     requires { ⌜ (relations .count ≤ 9) × (a .set + b .set < 2 ^ relations .count) × (a .figure .0 + b .figure .0 ≤ 4000000000000000) ⌝ }
     ensures { λ r. ⌜ r ≡ joinOf _+_ (ofSites sites relations (noJoins 0) (now (sizes .entry))) a b ⌝ }

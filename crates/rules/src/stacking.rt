@@ -33,7 +33,7 @@ fn nothing() -> Held
     }
 }
 
-pub fn empty() -> Stack
+pub(crate) fn empty() -> Stack
     ensures { λ r. ⌜ (stackOf r ≡ []) × (r .depth ≡ 0) ⌝ }
 {
     Stack {
@@ -42,7 +42,7 @@ pub fn empty() -> Stack
     }
 }
 
-pub fn push(s: Stack, h: Held) -> Stack
+pub(crate) fn push(s: Stack, h: Held) -> Stack
     requires { ⌜ s .depth < 9 ⌝ }
     ensures { λ r. ⌜ stackOf r ≡ h ∷ stackOf s ⌝ }
 {
@@ -53,7 +53,7 @@ pub fn push(s: Stack, h: Held) -> Stack
     next
 }
 
-pub fn pop(s: Stack) -> Popped
+pub(crate) fn pop(s: Stack) -> Popped
     requires { ⌜ (0 < s .depth) × (s .depth ≤ 9) ⌝ }
     ensures { λ r. ⌜ (stackOf s ≡ r .top ∷ stackOf (r .rest)) × (r .rest .depth + 1 ≡ s .depth) × (r .rest .depth < 9) ⌝ }
 {
@@ -64,7 +64,7 @@ pub fn pop(s: Stack) -> Popped
     Popped { top, rest }
 }
 
-pub fn pop_two(s: Stack) -> PoppedTwo
+pub(crate) fn pop_two(s: Stack) -> PoppedTwo
     requires { ⌜ (1 < s .depth) × (s .depth ≤ 9) ⌝ }
     ensures { λ r. ⌜ (stackOf s ≡ r .top ∷ (r .next ∷ stackOf (r .rest))) × (r .rest .depth < 9) ⌝ }
 {

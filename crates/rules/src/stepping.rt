@@ -168,7 +168,7 @@ fn join(
 }
 
 // A step by its kind and argument. Refusal 8: unknown kind, or argument not in the query.
-pub fn step<'a>(
+pub(crate) fn step<'a>(
     sites: Sites,
     relations: Relations,
     joins: Joins,

@@ -9,7 +9,7 @@ use Rattle.rules.specs.Machine.{start}
 use Rattle.rules.specs.Plans.{stepsOf, run}
 use Rattle.rules.specs.Code.{machineOf, Room}
 use Rattle.rules.proofs.Rooms.{start-room}
-use Rattle.rules.proofs.Checking.{valid-fair, run-refused, run-again, run-ends, room-again}
+use Rattle.rules.proofs.Checking.{run-refused, run-again, run-ends, room-again}
 use Rattle.rules.proofs.plans.run.Statement.{statement}
 use Rattle.rules.proofs.plans.run.Tie as tie
 
@@ -41,17 +41,28 @@ run-spec =
     (λ c. search needs)
     (λ c κs. search needs)
     (λ c κs. search needs)
-    (λ c. run-refused _ _ _ _ _ _ (c .before .before .before .before .before .before .before .before .before .before .before .before .before .before .before .before .before .before .before .before .before .before .before .pre .2) (c .before .before .before .before .before .before .before .before .before .before .before .before .before .before .before .before .before .loop .inv .2) _ _ _ _ _ _ (c .before .before .before .before .before .before .before .before .before .before .before .before .before .before .before .byte .ensures .0) (c .before .before .before .before .before .before .before .before .before .before .before .before .before .before .byte2 .ensures .0) (c .before .before .before .before .step .ensures)
-    (c .before .before .before .before .before .before .before .before .before .before .before .before .before .before .before .before .loop-test .taken) (c .before .before .enum-told2 .given .1) (c .before .number .ensures) (c .rejected .ensures))
-    (λ c. omega (arith, c .before .before .before .before .before .before .before .before .before .before .before .before .before .before .before .loop-test .taken, c .before .before .before .before .before .before .before .before .before .before .before .before .before .before .before .before .before .before .before .before .before .before .pre .1))
-    (λ c. omega (arith, c .before .before .before .before .before .before .before .before .before .before .before .before .before .before .before .loop-test .taken))
-    (λ c. let start = c .before .before .before .before .before .before .before .before .before .before .before .before .before .before .before .before .before .before .before .before .before .before in
-    let turn = c .before .before .before in
-    let loop = c .before .before .before .before .before .before .before .before .before .before .before .before .before .before .before .before in (
-      omega (arith, c .before .before .before .before .before .before .before .before .before .before .before .before .before .before .before .loop-test .taken),
-      room-again _ _ _ _ _ (start .pre .0) (loop .loop .inv .1) (turn .step .ensures) (c .before .enum-told .given .1),
-      run-again _ _ _ _ _ _ (start .pre .2) (loop .loop .inv .2) _ _ _ (c .before .before .before .before .before .before .before .before .before .before .before .before .before .before .byte .ensures .0) (c .before .before .before .before .before .before .before .before .before .before .before .before .before .byte2 .ensures .0) (turn .step .ensures)
-          (c .before .before .before .before .before .before .before .before .before .before .before .before .before .before .before .loop-test .taken) (c .before .enum-told .given .1),
+    (λ c.
+    let stepped = c .before .before .before .before in
+    let second = stepped .before .before .before .before .before .before .before .before .before .before in
+    let first = second .before in
+    let test = first .before in
+    let loop = test .before in
+    let begun = loop .before .before .before .before .before .before in
+    run-refused _ _ _ _ _ _ (begun .pre .2) (loop .loop .inv .2) _ _ _ _ _ _ (first .byte .ensures .0) (second .byte2 .ensures .0) (stepped .step .ensures)
+    (test .loop-test .taken) (c .before .before .enum-told2 .given .1) (c .before .number .ensures) (c .rejected .ensures))
+    (λ c. let test = c .before .before .before .before .before .before .before .before .before .before .before .before .before .before .before in omega (arith, test .loop-test .taken, test .before .before .before .before .before .before .before .pre .1))
+    (λ c. let test = c .before .before .before .before .before .before .before .before .before .before .before .before .before .before .before in omega (arith, test .loop-test .taken))
+    (λ c.
+    let stepped = c .before .before .before in
+    let second = stepped .before .before .before .before .before .before .before .before .before .before in
+    let first = second .before in
+    let test = first .before in
+    let loop = test .before in
+    let begun = loop .before .before .before .before .before .before in (
+      omega (arith, test .loop-test .taken),
+      room-again _ _ _ _ _ (begun .pre .0) (loop .loop .inv .1) (stepped .step .ensures) (c .before .enum-told .given .1),
+      run-again _ _ _ _ _ _ (begun .pre .2) (loop .loop .inv .2) _ _ _ (first .byte .ensures .0) (second .byte2 .ensures .0) (stepped .step .ensures)
+          (test .loop-test .taken) (c .before .enum-told .given .1),
     ))
     (λ c κs. search needs)
     (λ c. search (needs, run-ends)))
