@@ -57,7 +57,7 @@ terms-fair t e =
 
 pub link-sound :
     (p r : Planner) (l : Link) → Sound p → p .loaded ≡ true → (u : Bool) → u ≡ termsInRange (l .terms) → u ≡ true → r .length ≡ p .length →
-      r .query ≡ relined (p .query) l → Sound r
+    r .query ≡ relined (p .query) l → Sound r
 link-sound p r l s e u ranged in-range h m =
     let fair = terms-fair (l .terms) (sym ranged ∙ in-range) in
     record {
@@ -92,7 +92,7 @@ module _ (p : Planner) (out : List ℕ) (loaded : p .loaded ≡ true) (kept : p 
   -- The output after the kept plan was copied to its front.
   pub read-goes :
       p .length ≤ length out → (new : List ℕ) → (let k = take (p .length) (p .plan) in new ≡ take (length k) k ++ drop (length k) out) →
-        readingOf (wrote (p .length) (p .cost .0)) new ≡ read out (stateOf p)
+      readingOf (wrote (p .length) (p .cost .0)) new ≡ read out (stateOf p)
   unfolding read
   read-goes h new e = rw (loaded, kept, e, take-length (take (p .length) (p .plan)), length-take-le (p .length) (p .plan) whole, le-ltb (length out) (p .length) h)
 
@@ -125,7 +125,7 @@ refused-load (value q l) s k e = absurd (let z : _≡_ {A = ℕ} 0 1 = cc in ome
 
 whole-load :
     (x : Read Query) (s : State) → decodedOf x .outcome ≡ Outcome.Whole →
-      doneWith (loaded (decodedOf x .query .relations .count) (decodedOf x .subqueries)) (standing (decodedOf x .query)) ≡ loadDecoded x s
+    doneWith (loaded (decodedOf x .query .relations .count) (decodedOf x .subqueries)) (standing (decodedOf x .query)) ≡ loadDecoded x s
 whole-load (fields.refused j) s e = absurd (let z : _≡_ {A = ℕ} 0 1 = cc in omega arith)
 whole-load (value q l) s e = refl
 

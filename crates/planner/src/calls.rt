@@ -94,23 +94,20 @@ pub fn link(p: Planner, sender: u64, receiver: u64, opened: u64, fixed: u64, rat
     ensures done { λ r. ⌜ doneOf (ofLink (r .answer)) (r .planner) ≡ link (linkOf sender receiver opened fixed rate) (stateOf p) ⌝ }
     ensures sound { λ r. ⌜ Sound (r .planner) ⌝ }
 {
-    if p.loaded {
-    } else {
+    if p.loaded {} else {
         return AfterLink {
             answer: LinkAnswer::Refused(20),
             planner: p,
         };
     }
     let q = p.query;
-    if sites_listed(q.sites.count as u64, sender, receiver) {
-    } else {
+    if sites_listed(q.sites.count as u64, sender, receiver) {} else {
         return AfterLink {
             answer: LinkAnswer::Refused(6),
             planner: p,
         };
     }
-    if terms_in_range(opened, fixed, rate) {
-    } else {
+    if terms_in_range(opened, fixed, rate) {} else {
         return AfterLink {
             answer: LinkAnswer::Refused(3),
             planner: p,
@@ -155,8 +152,7 @@ pub fn check(p: Planner, plan: &[u8]) -> CheckAnswer
     requires { ⌜ Sound p ⌝ }
     ensures { λ r. ⌜ ofCheck r ≡ check (now (plan .entry)) (stateOf p) ⌝ }
 {
-    if p.loaded {
-    } else {
+    if p.loaded {} else {
         return CheckAnswer::Refused {
             number: 20,
             place: 0,

@@ -49,7 +49,7 @@ returns-4 c =
     let i = d .before .before .before .before in
     let s = i .before .before .before .before in
     read-goes (s .args .p) (now (s .args .output)) (i .before .before .if1 .taken) (i .before .if2 .taken) (array-share-prefix-plan (d .before .before .before)) (i .if3 .left) _
-      (d .copy .ensures .1)
+    (d .copy .ensures .1)
 
 pub read-spec : {M : Type 1} → statement M
 read-spec =
