@@ -1,0 +1,23 @@
+//! `model_calls [METHOD] < SCRIPT`: the lines of `calls`, by the model. A method's name
+//! makes it one of the planners that nearly work.
+
+use std::io::{self, BufReader, BufWriter, Write};
+
+use reference::{method::Method, planner::Planner, script::Call};
+
+fn main() -> io::Result<()> {
+    let method = std::env::args().nth(1).map_or(Some(Method::Document), |name| Method::from_name(&name));
+    let Some(method) = method else {
+        eprintln!("unknown method");
+        std::process::exit(2);
+    };
+    let mut script = BufReader::new(io::stdin().lock());
+    let mut output = BufWriter::new(io::stdout().lock());
+    let mut planner = Planner::empty(method);
+    while let Some(call) = Call::next(&mut script) {
+        for line in call.run(&mut planner) {
+            writeln!(output, "{line}")?;
+        }
+    }
+    output.flush()
+}
