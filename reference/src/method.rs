@@ -36,12 +36,8 @@ impl Method {
     ];
 
     /// Ways that cost the same and write another plan.
-    pub const OTHERWISE_WRITTEN: [Method; 4] = [
-        Method::HighestSite,
-        Method::HighestJoin,
-        Method::AskedSiteFirst,
-        Method::LowerPartFirst,
-    ];
+    pub const OTHERWISE_WRITTEN: [Method; 4] =
+        [Method::HighestSite, Method::HighestJoin, Method::AskedSiteFirst, Method::LowerPartFirst];
 
     /// All wrong ways.
     pub fn wrong() -> impl Iterator<Item = Method> {

@@ -45,7 +45,14 @@ pub fn rows() -> Vec<(Query, Option<u64>)> {
 
 /// Q with relation 1 and join 0 taken out.
 fn relation_0_alone(delivery: usize) -> Query {
-    Query::new(equal_sites(3, 2, 1), homes(&[0]), chain(1), sizes(&[10]), equal_lines(3, 1, 1), delivery)
+    Query::new(
+        equal_sites(3, 2, 1),
+        homes(&[0]),
+        chain(1),
+        sizes(&[10]),
+        equal_lines(3, 1, 1),
+        delivery,
+    )
 }
 
 /// The fourth example of source 000 as a chain of five; 364 is its paper's own figure.
@@ -78,7 +85,14 @@ pub fn bushy_four() -> Query {
 /// A tie that tells "lowest site over all" from "the asked site first": everything
 /// is free, so relation 0's home 0 wins over the asked site 1.
 pub fn lower_site_at_a_tie() -> Query {
-    Query::new(equal_sites(2, 0, 0), homes(&[0, 1]), chain(2), sizes(&[1, 1, 1]), equal_lines(2, 0, 0), 1)
+    Query::new(
+        equal_sites(2, 0, 0),
+        homes(&[0, 1]),
+        chain(2),
+        sizes(&[1, 1, 1]),
+        equal_lines(2, 0, 0),
+        1,
+    )
 }
 
 /// All sizes and amounts alike, every site open to joins, relation r at home r mod s.
@@ -86,7 +100,14 @@ pub fn uniform(joins: Vec<Join>, sites: usize) -> Query {
     let n = joins.len() + 1;
     let home_of: Vec<usize> = (0..n).map(|relation| relation % sites).collect();
     let all_sizes = vec![Bytes(1); tree::subqueries(&joins, n).len()];
-    Query::new(equal_sites(sites, 1, 1), homes(&home_of), joins, all_sizes, equal_lines(sites, 1, 1), 0)
+    Query::new(
+        equal_sites(sites, 1, 1),
+        homes(&home_of),
+        joins,
+        all_sizes,
+        equal_lines(sites, 1, 1),
+        0,
+    )
 }
 
 /// Join r links relations r and r + 1.

@@ -71,14 +71,16 @@ impl<'query> Tables<'query> {
             (join, first, other)
         };
         let tried = |&(_, first, other): &(usize, Set, Set)| {
-            self.method != Method::SingleOperand || sets::count(first) == 1 || sets::count(other) == 1
+            self.method != Method::SingleOperand
+                || sets::count(first) == 1
+                || sets::count(other) == 1
         };
         inside.map(split).filter(tried).collect()
     }
 
     /// Joined(S, k).
     fn joined_at(&self, subquery: Set, splits: &[(usize, Set, Set)], at: usize) -> Entry {
-        let mut best = Entry { cost: None, by: 0 };
+        let mut best = Entry { cost: None, by: splits[0].0 };
         if !self.may_join(subquery, at) {
             return best;
         }

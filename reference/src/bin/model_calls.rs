@@ -6,7 +6,8 @@ use std::io::{self, BufReader, BufWriter, Write};
 use reference::{method::Method, planner::Planner, script::Call};
 
 fn main() -> io::Result<()> {
-    let method = std::env::args().nth(1).map_or(Some(Method::Document), |name| Method::from_name(&name));
+    let method =
+        std::env::args().nth(1).map_or(Some(Method::Document), |name| Method::from_name(&name));
     let Some(method) = method else {
         eprintln!("unknown method");
         std::process::exit(2);

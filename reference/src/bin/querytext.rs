@@ -8,11 +8,13 @@ use reference::{decode, encode, text};
 
 fn main() -> ExitCode {
     let direction = std::env::args().nth(1);
-    let result = match direction.as_deref() {
-        Some("pack") => convert(pack),
-        Some("unpack") => convert(unpack),
-        _ => Err("usage: querytext pack < TEXT > FILE, or querytext unpack < FILE > TEXT".to_string()),
-    };
+    let result =
+        match direction.as_deref() {
+            Some("pack") => convert(pack),
+            Some("unpack") => convert(unpack),
+            _ => Err("usage: querytext pack < TEXT > FILE, or querytext unpack < FILE > TEXT"
+                .to_string()),
+        };
     match result {
         Ok(()) => ExitCode::SUCCESS,
         Err(reason) => {

@@ -23,7 +23,11 @@ impl Arguments {
     }
 
     /// Says what was covered, or shows the mismatch and ends with 1.
-    pub fn report(&self, cases: &str, result: io::Result<Result<Tally, Box<impl Display>>>) -> ExitCode {
+    pub fn report(
+        &self,
+        cases: &str,
+        result: io::Result<Result<Tally, Box<impl Display>>>,
+    ) -> ExitCode {
         match result {
             Ok(result) => report(cases, self.seed, self.count, result),
             Err(error) => {
@@ -44,7 +48,12 @@ pub fn seed_and_count(place: usize, seed: u64, count: u64) -> Option<(u64, u64)>
 }
 
 /// Says what was covered, or shows the mismatch and ends with 1.
-pub fn report(cases: &str, seed: u64, count: u64, result: Result<Tally, Box<impl Display>>) -> ExitCode {
+pub fn report(
+    cases: &str,
+    seed: u64,
+    count: u64,
+    result: Result<Tally, Box<impl Display>>,
+) -> ExitCode {
     match result {
         Ok(tally) => {
             print!("{tally}");

@@ -11,9 +11,9 @@ use crate::hex::hex;
 use crate::script;
 
 pub const DEFAULT_SEED: u64 = 1;
-pub const DEFAULT_COUNT: u64 = 50_000;
+pub const DEFAULT_COUNT: u64 = 20_000;
 /// One random query in so many has all its damages tried.
-const SWEEP_EVERY: u64 = 5_000;
+const SWEEP_EVERY: u64 = 2_000;
 /// Bytes before and behind the lent output.
 const GUARD: usize = 64;
 /// The longest plan's bytes.
@@ -77,7 +77,12 @@ pub fn compare(call: CCall, seed: u64, count: u64) -> Result<Tally, Box<Mismatch
     Ok(tally)
 }
 
-fn compare_one(call: CCall, query: &[u8], length: usize, tally: &mut Tally) -> Result<u64, Box<Mismatch>> {
+fn compare_one(
+    call: CCall,
+    query: &[u8],
+    length: usize,
+    tally: &mut Tally,
+) -> Result<u64, Box<Mismatch>> {
     let expected = outcome(length, |output| c_call::fanchuki_plan(query, output));
     let mut feeds = vec![false];
     if query.is_empty() || length == 0 {

@@ -9,6 +9,7 @@ use crate::compare::tally::Tally;
 use crate::generate::calls;
 use crate::hex::hex;
 use crate::method::Method;
+use crate::pinned_calls;
 use crate::planner::Planner;
 use crate::random::Random;
 use crate::script::Call;
@@ -39,8 +40,18 @@ impl fmt::Display for Mismatch {
     }
 }
 
-pub fn compare(program: &Program, seed: u64, count: u64) -> io::Result<Result<Tally, Box<Mismatch>>> {
+/// The fixed lists, then `count` random ones.
+pub fn compare(
+    program: &Program,
+    seed: u64,
+    count: u64,
+) -> io::Result<Result<Tally, Box<Mismatch>>> {
     let mut tally = Tally::default();
+    for calls in pinned_calls::lists() {
+        if let Err(mismatch) = compare_script(program, &calls, &[], Feed::Whole, &mut tally)? {
+            return Ok(Err(Box::new(shortest(program, *mismatch)?)));
+        }
+    }
     for case in 0..count {
         let mut random = Random::for_case(seed, case);
         let calls = calls::calls(&mut random, CALLS_IN_A_SCRIPT);

@@ -33,7 +33,11 @@ impl fmt::Display for Mismatch {
 }
 
 /// The fixed cases, then `count` random ones.
-pub fn compare(program: &Program, seed: u64, count: u64) -> io::Result<Result<Tally, Box<Mismatch>>> {
+pub fn compare(
+    program: &Program,
+    seed: u64,
+    count: u64,
+) -> io::Result<Result<Tally, Box<Mismatch>>> {
     let mut tally = Tally::default();
     let random = (0..count).map(|case| cases::random_file(seed, case));
     for (number, file) in cases::fixed().into_iter().chain(random).enumerate() {

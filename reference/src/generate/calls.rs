@@ -29,15 +29,17 @@ pub fn calls(random: &mut Random, length: usize) -> Vec<Call> {
 }
 
 fn call(random: &mut Random, planner: &Planner, room: &Room) -> Call {
-    // Without a kept plan a read is mostly refused, so solve comes more often.
-    let until_solve = if planner.kept().is_some() { 35 } else { 60 };
+    // Without a kept plan a read is refused, so solve comes more often.
+    let (solves, reads) = if planner.kept().is_some() { (12, 26) } else { (40, 7) };
     match random.below(100) {
-        0..=4 => Call::Load { file: encode::encode(&queries::query(random, room)) },
-        5..=11 => Call::Load { file: files::file(random, room) },
-        12..=24 => Call::Link(link(random, planner)),
-        25.. if random.percent(35) => Call::Check { plan: plan(random, planner) },
-        chance if chance < until_solve => Call::Solve { cells: cells(random) },
-        _ => Call::Read { length: output_length(random, planner) },
+        0..=3 => Call::Load { file: encode::encode(&queries::query(random, room)) },
+        4..=9 => Call::Load { file: files::file(random, room) },
+        10..=24 => Call::Link(link(random, planner)),
+        chance if chance < 25 + solves => Call::Solve { cells: cells(random) },
+        chance if chance < 25 + solves + reads => {
+            Call::Read { length: output_length(random, planner) }
+        }
+        _ => Call::Check { plan: plan(random, planner) },
     }
 }
 
@@ -55,7 +57,7 @@ fn link(random: &mut Random, planner: &Planner) -> Link {
     let mut link = Link {
         sender: random.between(0, sites - 1),
         receiver: random.between(0, sites - 1),
-        open: random.between(0, 1),
+        open: u64::from(random.percent(75)),
         fixed: random.spread(MOST_FIXED),
         rate: random.spread(MOST_RATE),
     };
@@ -94,7 +96,22 @@ fn wild(random: &mut Random, value: u64, limit: u64) -> u64 {
 fn cells(random: &mut Random) -> u32 {
     let needed = WORK_CELLS as u32;
     let any = random.between(0, 2 * u64::from(needed)) as u32;
-    random.pick(&[needed, needed, needed, needed, needed + 1, needed + 64, 8_192, 8_193, u32::MAX, needed - 1, 0, 1, 512, any])
+    random.pick(&[
+        needed,
+        needed,
+        needed,
+        needed,
+        needed + 1,
+        needed + 64,
+        8_192,
+        8_193,
+        u32::MAX,
+        needed - 1,
+        0,
+        1,
+        512,
+        any,
+    ])
 }
 
 fn output_length(random: &mut Random, planner: &Planner) -> u32 {

@@ -73,7 +73,9 @@ pub fn odd_files(query: &Query) -> Vec<Vec<u8>> {
         longer
     };
     let mut files = vec![ten_relations(), vec![0; 5_000], vec![255; 5_000], vec![1; 1_674]];
-    files.extend([1, 2, 8, 1_567, 1_568, 1_674, 4_096, 65_536, 200_000].map(|count| with_bytes(count, 0)));
+    files.extend(
+        [1, 2, 8, 1_567, 1_568, 1_674, 4_096, 65_536, 200_000].map(|count| with_bytes(count, 0)),
+    );
     files.extend((0..=255).map(|byte| vec![byte]));
     files
 }

@@ -4,3 +4,4 @@ pub mod calls;
 pub mod files;
 pub mod plans;
 pub mod queries;
+pub mod unequal;

@@ -35,7 +35,13 @@ pub fn to_check(random: &mut Random, query: &Query, kept: Option<&[Step]>) -> Ve
 }
 
 /// Steps that put the set at the site, made at a random site by a random join.
-fn deliver(random: &mut Random, query: &Query, set: Set, to: usize, steps: &mut Vec<Step>) -> Option<()> {
+fn deliver(
+    random: &mut Random,
+    query: &Query,
+    set: Set,
+    to: usize,
+    steps: &mut Vec<Step>,
+) -> Option<()> {
     let from = if sets::count(set) == 1 {
         let relation = sets::lowest(set);
         steps.push(Step::Load { relation });

@@ -39,6 +39,13 @@ impl Shape {
     pub const ALL: [Shape; 3] = [Shape::Chain, Shape::Star, Shape::Tree];
 }
 
+/// Whether all kinds of amounts in a query are such that many plans cost the same.
+#[derive(Clone, Copy, Debug, PartialEq, Eq)]
+enum Mood {
+    Ties,
+    Mixed,
+}
+
 /// Where the amounts of one kind lie in one query.
 #[derive(Clone, Copy, Debug)]
 enum Amounts {
@@ -53,7 +60,15 @@ enum Amounts {
 }
 
 impl Amounts {
-    fn choose(random: &mut Random, limit: u64) -> Amounts {
+    fn choose(random: &mut Random, limit: u64, mood: Mood) -> Amounts {
+        if mood == Mood::Ties {
+            return random.pick(&[
+                Amounts::Zero,
+                Amounts::Alike(1),
+                Amounts::Alike(1),
+                Amounts::UpTo(1),
+            ]);
+        }
         match random.below(10) {
             0 => Amounts::Zero,
             1 => Amounts::Alike(random.between(0, 3)),
@@ -84,8 +99,12 @@ pub fn query(random: &mut Random, room: &Room) -> Query {
     let shape = random.pick(&Shape::ALL);
     let joins = joins(random, shape, n);
     let subqueries = tree::subqueries(&joins, n).len();
-    let delivery = random.below(s);
-    Query::new(sites(random, s), relations(random, n, s), joins, sizes(random, subqueries), lines(random, s), delivery)
+    let mood = if random.percent(30) { Mood::Ties } else { Mood::Mixed };
+    let sites = sites(random, s, mood);
+    let relations = relations(random, n, s);
+    let sizes = sizes(random, subqueries, mood);
+    let lines = lines(random, s, mood);
+    Query::new(sites, relations, joins, sizes, lines, random.below(s))
 }
 
 /// Joins of a shape, relations and joins numbered and turned at random half the time.
@@ -116,9 +135,10 @@ pub fn joins(random: &mut Random, shape: Shape, n: usize) -> Vec<Join> {
     joins
 }
 
-fn sites(random: &mut Random, count: usize) -> Vec<Site> {
+fn sites(random: &mut Random, count: usize, mood: Mood) -> Vec<Site> {
     let may_join = random.pick(&[100, 100, 75, 40]);
-    let (fixed, rate) = (Amounts::choose(random, MOST_FIXED), Amounts::choose(random, MOST_RATE));
+    let fixed = Amounts::choose(random, MOST_FIXED, mood);
+    let rate = Amounts::choose(random, MOST_RATE, mood);
     let site = |_| Site {
         may_join: random.percent(may_join),
         fixed: Charge(fixed.draw(random, MOST_FIXED)),
@@ -134,14 +154,15 @@ fn relations(random: &mut Random, count: usize, sites: usize) -> Vec<Relation> {
     (0..count).map(relation).collect()
 }
 
-fn sizes(random: &mut Random, count: usize) -> Vec<Bytes> {
-    let amounts = Amounts::choose(random, MOST_SIZE);
+fn sizes(random: &mut Random, count: usize, mood: Mood) -> Vec<Bytes> {
+    let amounts = Amounts::choose(random, MOST_SIZE, mood);
     (0..count).map(|_| Bytes(amounts.draw(random, MOST_SIZE))).collect()
 }
 
-fn lines(random: &mut Random, sites: usize) -> Vec<Line> {
+fn lines(random: &mut Random, sites: usize, mood: Mood) -> Vec<Line> {
     let open = random.pick(&[100, 100, 75, 50, 25]);
-    let (fixed, rate) = (Amounts::choose(random, MOST_FIXED), Amounts::choose(random, MOST_RATE));
+    let fixed = Amounts::choose(random, MOST_FIXED, mood);
+    let rate = Amounts::choose(random, MOST_RATE, mood);
     let line = |_| Line {
         open: random.percent(open),
         fixed: Charge(fixed.draw(random, MOST_FIXED)),

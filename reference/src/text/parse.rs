@@ -56,14 +56,20 @@ impl Draft {
             ["site", number, terms @ ..] => self.sites(number, number, terms),
             ["sites", first, "to", last, terms @ ..] => self.sites(first, last, terms),
             ["relation", number, "at", "site", home] => self.relation(number, home, false),
-            ["relation", number, "at", "site", home, "indexed"] => self.relation(number, home, true),
+            ["relation", number, "at", "site", home, "indexed"] => {
+                self.relation(number, home, true)
+            }
             ["join", number, "links", first, "and", second] => self.join(number, first, second),
             ["size", "of", relations @ .., "is", size] => self.size(relations, size),
-            ["every", "line", terms @ ..] => set_once(&mut self.every_line, line(terms)?, "every line"),
-            ["line", sender, "to", receiver, terms @ ..] => self.line(sender, receiver, terms),
-            ["delivery", "to", "site", site] => {
-                set_once(&mut self.delivery, number(site, MOST_SITES as u64 - 1)? as usize, "delivery")
+            ["every", "line", terms @ ..] => {
+                set_once(&mut self.every_line, line(terms)?, "every line")
             }
+            ["line", sender, "to", receiver, terms @ ..] => self.line(sender, receiver, terms),
+            ["delivery", "to", "site", site] => set_once(
+                &mut self.delivery,
+                number(site, MOST_SITES as u64 - 1)? as usize,
+                "delivery",
+            ),
             [word, ..] => Err(format!("not a statement that begins with '{word}'")),
         }
     }
@@ -171,7 +177,9 @@ impl Draft {
 
     fn lines_in_order(&self) -> Result<Vec<Line>, String> {
         let all: Vec<(usize, usize)> = Query::line_ends(self.sites.len()).collect();
-        if let Some(((sender, receiver), _)) = self.lines.iter().find(|(ends, _)| !all.contains(ends)) {
+        if let Some(((sender, receiver), _)) =
+            self.lines.iter().find(|(ends, _)| !all.contains(ends))
+        {
             return Err(format!("no line leads from {sender} to {receiver}"));
         }
         let find = |ends: &(usize, usize)| {
