@@ -95,6 +95,13 @@ pub fn lower_site_at_a_tie() -> Query {
     )
 }
 
+/// One relation at one site, which may not join: no joins, no lines.
+pub fn alone() -> Query {
+    let site = Site { may_join: false, fixed: Charge(0), rate: Rate(0) };
+    let relation = Relation { home: 0, index: true };
+    Query::new(vec![site], vec![relation], chain(1), sizes(&[7]), Vec::new(), 0)
+}
+
 /// All sizes and amounts alike, every site open to joins, relation r at home r mod s.
 pub fn uniform(joins: Vec<Join>, sites: usize) -> Query {
     let n = joins.len() + 1;

@@ -207,9 +207,7 @@ fn checks() -> Vec<Call> {
 
 /// One relation at one site: no joins, no lines, no sends, trials 0.
 fn alone() -> Vec<Call> {
-    let site = Site { may_join: false, fixed: Charge(0), rate: Rate(0) };
-    let relation = Relation { home: 0, index: true };
-    let query = Query::new(vec![site], vec![relation], Vec::new(), vec![Bytes(7)], Vec::new(), 0);
+    let query = pinned::alone();
     vec![
         load(&query),
         SOLVE,

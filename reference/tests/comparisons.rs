@@ -61,7 +61,7 @@ fn calls_fail_when_they_nearly_work() {
     for method in Method::wrong() {
         let mismatch =
             calls::compare(&model_calls(method), calls::DEFAULT_SEED, calls::DEFAULT_COUNT);
-        let mismatch = mismatch.unwrap().expect_err(method.name());
+        let Err(mismatch) = mismatch.unwrap() else { panic!("{}", method.name()) };
         assert!(mismatch.calls.len() <= 4, "{mismatch}");
     }
 }
@@ -70,7 +70,8 @@ fn calls_fail_when_they_nearly_work() {
 fn each_wrong_method_is_told_apart() {
     for method in Method::wrong() {
         let right = |file: &[u8]| listing::listing(file, Method::Document);
-        let mismatch = apart::told_apart(method, 1, right).expect(method.name());
+        let mismatch =
+            apart::told_apart(method, 1, right).unwrap_or_else(|| panic!("{}", method.name()));
         println!("== {}\n{mismatch}", method.name());
     }
 }

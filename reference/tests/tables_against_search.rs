@@ -29,17 +29,17 @@ fn agree_on_many(seed: u64, count: u64, room: Room) {
 
 #[test]
 fn up_to_four_relations_at_three_sites() {
-    agree_on_many(11, 10_000, Room::small());
+    agree_on_many(11, 6_000, Room::small());
 }
 
 #[test]
 fn four_relations_at_three_sites() {
-    agree_on_many(12, 1_000, Room { relations: 4..=4, sites: 3..=3 });
+    agree_on_many(12, 600, Room { relations: 4..=4, sites: 3..=3 });
 }
 
 #[test]
 fn five_relations() {
-    agree_on_many(13, 150, Room { relations: 5..=5, sites: 1..=3 });
+    agree_on_many(13, 100, Room { relations: 5..=5, sites: 1..=3 });
 }
 
 #[test]

@@ -2,6 +2,7 @@
 
 use std::fs;
 
+use reference::compare::program::{Answering, Feed, Program};
 use reference::encode::encode;
 use reference::generate::queries::{self, Room};
 use reference::limits::LONGEST_FILE;
@@ -37,6 +38,20 @@ fn the_examples() {
     let star = example("star-of-nine");
     assert_eq!(star.subqueries().len(), 264);
     assert_eq!(encode(&star).len(), LONGEST_FILE);
+}
+
+#[test]
+fn the_tool() {
+    let run = |direction: &str, input: &[u8]| {
+        let mut tool = Program::new(env!("CARGO_BIN_EXE_querytext"));
+        tool.arguments.push(direction.to_string());
+        tool.run(input, Feed::Whole).unwrap()
+    };
+    let q = print(&pinned::q());
+    assert_eq!(run("unpack", &encode(&pinned::q())), q);
+    assert_eq!(run("pack", q.as_bytes()).as_bytes(), encode(&pinned::q()));
+    assert_eq!(run("unpack", &[0]), "");
+    assert_eq!(run("pack", b"site 1"), "");
 }
 
 #[test]

@@ -3,13 +3,13 @@
 
 use std::io::{self, BufReader, BufWriter, Write};
 
-use reference::{method::Method, planner::Planner, script::Call};
+use reference::compare::arguments;
+use reference::planner::Planner;
+use reference::script::Call;
 
 fn main() -> io::Result<()> {
-    let method =
-        std::env::args().nth(1).map_or(Some(Method::Document), |name| Method::from_name(&name));
-    let Some(method) = method else {
-        eprintln!("unknown method");
+    let Some(method) = arguments::method() else {
+        eprintln!("usage: model_calls [METHOD] < SCRIPT");
         std::process::exit(2);
     };
     let mut script = BufReader::new(io::stdin().lock());

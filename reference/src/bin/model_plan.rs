@@ -3,13 +3,12 @@
 
 use std::io::{self, Read};
 
-use reference::{listing, method::Method};
+use reference::compare::arguments;
+use reference::listing;
 
 fn main() -> io::Result<()> {
-    let method =
-        std::env::args().nth(1).map_or(Some(Method::Document), |name| Method::from_name(&name));
-    let Some(method) = method else {
-        eprintln!("unknown method");
+    let Some(method) = arguments::method() else {
+        eprintln!("usage: model_plan [METHOD] < FILE");
         std::process::exit(2);
     };
     let mut file = Vec::new();

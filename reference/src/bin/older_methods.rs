@@ -84,8 +84,7 @@ Seed {seed}; {count} random queries for each shape, each n from {} to {} and eac
 | divisor of a join | half the smaller to twice the larger of its relations, all orders of magnitude alike |
 | line fixed; line rate | {}; {}, evenly |
 | join fixed; join rate | {}; {}, evenly |
-| index | {} relations of 100 |
-",
+| index | {} relations of 100 |",
         RELATIONS.start(),
         RELATIONS.end(),
         SITES.start(),
@@ -100,7 +99,7 @@ Seed {seed}; {count} random queries for each shape, each n from {} to {} and eac
 }
 
 fn print_table(title: &str, column: &str, table: &Table) {
-    println!("## {title}\n");
+    println!("\n## {title}\n");
     let columns = ["single operand", "only homes", "equal lines"];
     let columns = columns.map(|method| format!("{method}: dearer | mean | worst"));
     println!("| shape | {column} | {} |", columns.join(" | "));
@@ -111,5 +110,4 @@ fn print_table(title: &str, column: &str, table: &Table) {
         });
         println!("| {row} | {} |", cells.join(" | "));
     }
-    println!();
 }

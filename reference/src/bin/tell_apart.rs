@@ -5,7 +5,7 @@
 use std::process::ExitCode;
 
 use reference::compare::apart;
-use reference::compare::program::{Feed, Program};
+use reference::compare::program::{Answering, Feed, Program};
 use reference::method::Method;
 use reference::{decode, listing, text};
 

@@ -1,4 +1,4 @@
-//! The arguments of the comparing programs, and how they end.
+//! The arguments of the programs here, and how the comparing ones end.
 
 use std::env;
 use std::fmt::Display;
@@ -7,6 +7,7 @@ use std::process::ExitCode;
 
 use crate::compare::program::Program;
 use crate::compare::tally::Tally;
+use crate::method::Method;
 
 pub struct Arguments {
     pub program: Program,
@@ -45,6 +46,14 @@ pub fn seed_and_count(place: usize, seed: u64, count: u64) -> Option<(u64, u64)>
         None => Some(default),
     };
     Some((number(place, seed)?, number(place + 1, count)?))
+}
+
+/// The method that the command line names, the document's if it names none.
+pub fn method() -> Option<Method> {
+    match env::args().nth(1) {
+        Some(name) => Method::from_name(&name),
+        None => Some(Method::Document),
+    }
 }
 
 /// Says what was covered, or shows the mismatch and ends with 1.

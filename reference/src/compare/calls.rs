@@ -4,7 +4,7 @@
 use std::fmt;
 use std::io;
 
-use crate::compare::program::{Feed, Program};
+use crate::compare::program::{Answering, Feed};
 use crate::compare::tally::Tally;
 use crate::generate::calls;
 use crate::hex::hex;
@@ -17,7 +17,9 @@ use crate::script::Call;
 pub const DEFAULT_SEED: u64 = 1;
 /// Scripts in a run, and calls in a script.
 pub const DEFAULT_COUNT: u64 = 200;
-pub const CALLS_IN_A_SCRIPT: usize = 400;
+const CALLS_IN_A_SCRIPT: usize = 400;
+/// Calls in the first script, which is megabytes long.
+const CALLS_IN_THE_FIRST: usize = 10_000;
 
 /// A list of calls on which the program and the model differ.
 #[derive(Clone, Debug)]
@@ -42,7 +44,7 @@ impl fmt::Display for Mismatch {
 
 /// The fixed lists, then `count` random ones.
 pub fn compare(
-    program: &Program,
+    program: &impl Answering,
     seed: u64,
     count: u64,
 ) -> io::Result<Result<Tally, Box<Mismatch>>> {
@@ -54,7 +56,8 @@ pub fn compare(
     }
     for case in 0..count {
         let mut random = Random::for_case(seed, case);
-        let calls = calls::calls(&mut random, CALLS_IN_A_SCRIPT);
+        let length = if case == 0 { CALLS_IN_THE_FIRST } else { CALLS_IN_A_SCRIPT };
+        let calls = calls::calls(&mut random, length);
         let tail = tail(&mut random);
         let feed = if case % 8 == 0 { Feed::Pieces(997) } else { Feed::Whole };
         if let Err(mismatch) = compare_script(program, &calls, &tail, feed, &mut tally)? {
@@ -65,7 +68,7 @@ pub fn compare(
 }
 
 fn compare_script(
-    program: &Program,
+    program: &impl Answering,
     calls: &[Call],
     tail: &[u8],
     feed: Feed,
@@ -110,7 +113,7 @@ fn tail(random: &mut Random) -> Vec<u8> {
 }
 
 /// Takes calls out, many at a time and then one by one, as long as a mismatch stays.
-fn shortest(program: &Program, mut mismatch: Mismatch) -> io::Result<Mismatch> {
+fn shortest(program: &impl Answering, mut mismatch: Mismatch) -> io::Result<Mismatch> {
     let mut chunk = mismatch.calls.len() / 2;
     while chunk > 0 {
         let mut from = 0;

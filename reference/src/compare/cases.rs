@@ -16,6 +16,7 @@ pub fn fixed() -> Vec<Vec<u8>> {
 
     let mut cases: Vec<Vec<u8>> = pinned.iter().map(encode::encode).collect();
     cases.extend(sweep(&pinned::q()));
+    cases.extend(sweep(&pinned::alone()));
     cases.extend(files::odd_files(&pinned::q()));
     let longest = pinned::uniform(pinned::star(9), 8);
     cases.extend(files::every_cut(&longest));

@@ -5,7 +5,7 @@ use std::fmt;
 use std::io;
 
 use crate::compare::cases;
-use crate::compare::program::{Feed, Program};
+use crate::compare::program::{Answering, Feed};
 use crate::compare::tally::Tally;
 use crate::decode;
 use crate::exhaustive;
@@ -34,7 +34,7 @@ impl fmt::Display for Mismatch {
 
 /// The fixed cases, then `count` random ones.
 pub fn compare(
-    program: &Program,
+    program: &impl Answering,
     seed: u64,
     count: u64,
 ) -> io::Result<Result<Tally, Box<Mismatch>>> {

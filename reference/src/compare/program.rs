@@ -21,14 +21,21 @@ pub enum Feed {
     Pieces(usize),
 }
 
+/// Whatever prints an answer for an input: a built program, or a planner in a test.
+pub trait Answering {
+    fn run(&self, input: &[u8], feed: Feed) -> io::Result<String>;
+}
+
 impl Program {
     pub fn new(path: impl Into<OsString>) -> Program {
         Program { path: path.into(), arguments: Vec::new() }
     }
+}
 
+impl Answering for Program {
     /// What it prints; a death by signal is added as a last line, so that it can
     /// equal no expected answer.
-    pub fn run(&self, input: &[u8], feed: Feed) -> io::Result<String> {
+    fn run(&self, input: &[u8], feed: Feed) -> io::Result<String> {
         let mut child = Command::new(&self.path)
             .args(&self.arguments)
             .stdin(Stdio::piped())

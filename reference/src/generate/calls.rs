@@ -33,14 +33,28 @@ fn call(random: &mut Random, planner: &Planner, room: &Room) -> Call {
     let (solves, reads) = if planner.kept().is_some() { (12, 26) } else { (40, 7) };
     match random.below(100) {
         0..=3 => Call::Load { file: encode::encode(&queries::query(random, room)) },
-        4..=9 => Call::Load { file: files::file(random, room) },
+        4..=9 => {
+            let file = files::file(random, room);
+            Call::Load { file: long_at_times(random, file) }
+        }
         10..=24 => Call::Link(link(random, planner)),
         chance if chance < 25 + solves => Call::Solve { cells: cells(random) },
         chance if chance < 25 + solves + reads => {
             Call::Read { length: output_length(random, planner) }
         }
-        _ => Call::Check { plan: plan(random, planner) },
+        _ => {
+            let plan = plan(random, planner);
+            Call::Check { plan: long_at_times(random, plan) }
+        }
     }
+}
+
+/// Now and then as many bytes as a record can have.
+fn long_at_times(random: &mut Random, mut bytes: Vec<u8>) -> Vec<u8> {
+    if random.below(500) == 0 {
+        bytes.resize(usize::from(u16::MAX), 1);
+    }
+    bytes
 }
 
 fn plan(random: &mut Random, planner: &Planner) -> Vec<u8> {
