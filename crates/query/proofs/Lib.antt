@@ -11,3 +11,4 @@ pub mod LineLaws
 pub mod SizeLaws
 pub mod Kept
 pub mod FileLaws
+pub mod Refusals

@@ -4,7 +4,7 @@ use mathlib.Core.Path.{_≡_}
 use mathlib.Core.Bool.{Bool}
 use mathlib.Core.List.{List}
 use Rattle.query.specs.declared.Query.{Query}
-use Rattle.query.specs.Fields.{value}
+use Rattle.query.specs.Fields.{value, refused}
 use Rattle.query.specs.Decode.{decode}
 use Rattle.query.specs.Query.{Valid}
 use Rattle.query.specs.Prices.{linePrice, joinPrice, reads}
@@ -23,3 +23,7 @@ JoinMost = (q : Query) → Valid q → (k : ℕ) (a : Bool) (P : ℕ) (b : Bool)
 -- The order of the operands does not matter to a join's price, and sparing a read never makes it dearer.
 abbrev pub ReadsEither : Type 0
 ReadsEither = (a : Bool) (x : ℕ) (b : Bool) (y : ℕ) → reads a x b y ≡ reads b y a x
+
+-- A file is refused with one of the numbers 1 to 5.
+abbrev pub DecodeRefusals : Type 0
+DecodeRefusals = (file : List ℕ) (k : ℕ) → decode file ≡ refused k → (1 ≤ k) × (k ≤ 5)

@@ -1,0 +1,44 @@
+// Lines of the answers.
+use libc::STDOUT_FILENO;
+ghost use Prim.Native.Nat.{_≤_};
+ghost use lib.ListN.{length};
+
+pub(crate) fn text(word: &[u8]) {
+    io::write_all(STDOUT_FILENO, word);
+}
+
+// A word and a number behind it.
+pub(crate) fn one(word: &[u8], n: u64) {
+    io::write_all(STDOUT_FILENO, word);
+    io::print_decimal(STDOUT_FILENO, n);
+}
+
+// A line of a word and a number.
+pub(crate) fn line(word: &[u8], n: u64) {
+    one(word, n);
+    text(b"\n");
+}
+
+// A line of a word and two numbers.
+pub(crate) fn line_two(word: &[u8], n: u64, m: u64) {
+    one(word, n);
+    line(b" ", m);
+}
+
+fn digit(d: u8) -> u8 {
+    let low = d % 16;
+    if low < 10 { 48 + low } else { 87 + low }
+}
+
+// The bytes of a buffer's front in hexadecimal.
+pub(crate) fn hex(buffer: &[u8], n: usize) {
+    let mut digits = [0u8; 8192];
+    let mut i = 0;
+    while i < n && i < 4096 && i < buffer.len() {
+        let b = buffer[i];
+        digits[2 * i] = digit(b / 16);
+        digits[2 * i + 1] = digit(b);
+        i += 1;
+    }
+    io::write_all(STDOUT_FILENO, &digits[..2 * i]);
+}
