@@ -2,3 +2,4 @@ pub mod Sets
 pub mod Growth
 pub mod Trees
 pub mod Theorems
+pub mod Code

@@ -1,4 +1,18 @@
 // Sets of relations, the joins between them, growth along joins, and the two parts of a subquery.
+mod growing;
+mod member;
+mod subquery;
+mod tree;
+
+pub use growing::grow;
+pub use member::bit;
+pub use member::single;
+pub use member::whole;
+pub use subquery::count_subqueries;
+pub use subquery::counted;
+pub use subquery::is_subquery;
+pub use tree::reaches;
+pub use tree::sides;
 
 // The joins of a query: join e links relations first[e] and second[e], for e below count.
 pub struct Joins {

@@ -1,0 +1,80 @@
+-- How many members a set has: the counts of disjoint sets add up, so a set with as many members as one that holds it is that set.
+-- With it, the lowest member of a set, which is the only one of a set of one.
+use Prim.Native.Nat.{ℕ, zero, suc, _+_, _-_, _/_, _%_, _^_, _≤_, _<_}
+use mathlib.Core.Path.{_≡_, refl, sym, ap, _∙_}
+use mathlib.Core.Logic.{inl, inr}
+use native.Mathlib.Nat.{zero-add, pow-suc, eq-zero-or-pos}
+use native.Mathlib.Omega.{arith}
+use lib.Arith.{bin-ind}
+use lib.Pow.{pow-lt, pow-pos}
+use lib.Count.{ones, ones-step, trailingZeros, under}
+use Rattle.relations.specs.Sets.{bit, Sub, Apart, put, lowest}
+use Rattle.relations.proofs.Bits.{bit-zero, bit-suc, sub-apart, sub-whole, sub-single, single-apart, bit-range, put-new, pow-cases}
+
+pub ones-zero : ones 0 ≡ 0
+unfolding ones
+ones-zero = refl
+
+pub ones-add : (A B : ℕ) → Apart A B → ones (A + B) ≡ ones A + ones B
+ones-add =
+    bin-ind (λ (A : ℕ). (B : ℕ) → Apart A B → ones (A + B) ≡ ones A + ones B) (λ B p. ap ones (zero-add B) ∙ omega (arith, ones-zero))
+    (λ A ih B p.
+    let halves : (A + B) / 2 ≡ A / 2 + B / 2 = omega (arith, p 0, bit-zero A, bit-zero B) in
+    let rest : ones ((A + B) / 2) ≡ ones (A / 2) + ones (B / 2) =
+    ap ones halves ∙ ih (B / 2) (λ r. omega (arith, p (suc r), bit-suc A r, bit-suc B r)) in
+    omega (arith, p 0, bit-zero A, bit-zero B, ones-step (A + B), ones-step A, ones-step B))
+
+pub ones-sub : (A B : ℕ) → Sub A B → ones B ≡ ones A + ones (B - A)
+ones-sub A B s = ap ones (sym (sub-whole A B s)) ∙ ones-add A (B - A) (sub-apart A B s)
+
+pub ones-mono : (A B : ℕ) → Sub A B → ones A ≤ ones B
+ones-mono A B s = omega (arith, ones-sub A B s)
+
+pub ones-pos : (S : ℕ) → 0 < S → 0 < ones S
+ones-pos =
+    bin-ind (λ (S : ℕ). 0 < S → 0 < ones S) (λ h. omega arith) (λ S ih h.
+    elim (eq-zero-or-pos (S / 2)) [ inl e ↦ omega (arith, ones-step S) | inr p ↦ omega (arith, ones-step S, ih p) ])
+
+pub ones-none : (S : ℕ) → ones S ≡ 0 → S ≡ 0
+ones-none S h = elim (eq-zero-or-pos S) [ inl e ↦ e | inr p ↦ omega (arith, ones-pos S p) ]
+
+-- A part with as many members is the whole.
+pub sub-full : (A B : ℕ) → Sub A B → ones B ≤ ones A → A ≡ B
+sub-full A B s h = omega (arith, sub-whole A B s, ones-none (B - A) (omega (arith, ones-sub A B s)))
+
+pub ones-pow : (k : ℕ) → ones (2 ^ k) ≡ 1
+ones-pow zero = one
+  where
+    one : ones 1 ≡ 1
+    one = omega (arith, ones-step 1, ones-zero)
+ones-pow (suc k) = ones-step (2 ^ suc k) ∙ omega (arith, pow-suc 2 k, ap ones half, ones-pow k)
+  where
+    half : 2 ^ suc k / 2 ≡ 2 ^ k
+    half = omega (arith, pow-suc 2 k)
+
+pub ones-put : (S k : ℕ) → bit S k ≡ 0 → ones (put S k) ≡ ones S + 1
+ones-put S k h = ap ones (put-new S k h) ∙ ones-add S (2 ^ k) (single-apart S k h) ∙ omega (arith, ones-pow k)
+
+-- The lowest member of a set that is not empty is a member.
+pub lowest-in : (n S : ℕ) → 0 < S → S < 2 ^ n → bit S (lowest n S) ≡ 1
+unfolding trailingZeros
+lowest-in zero S p h = omega arith
+lowest-in (suc n) S p h = go (S % 2) refl (λ q. lowest-in n (S / 2) q (omega (arith, pow-suc 2 n)))
+  where
+    go : (d : ℕ) → S % 2 ≡ d → (0 < S / 2 → bit (S / 2) (lowest n (S / 2)) ≡ 1) → bit S (under d (lowest n (S / 2))) ≡ 1
+    go zero e above = bit-suc S (lowest n (S / 2)) ∙ above (omega arith)
+    go (suc d) e above = omega (arith, bit-zero S)
+
+pub lowest-below : (n S : ℕ) → 0 < S → S < 2 ^ n → lowest n S < n
+lowest-below n S p h = bit-range S n (lowest n S) h (lowest-in n S p h)
+
+pub lowest-pow : (n r : ℕ) → r < n → lowest n (2 ^ r) ≡ r
+lowest-pow n r l =
+    elim (pow-cases r (lowest n (2 ^ r))) [ inl (e, one) ↦ sym e | inr none ↦ omega (arith, lowest-in n (2 ^ r) (pow-pos r) (pow-lt l)) ]
+
+pub single-of-ones : (n S : ℕ) → S < 2 ^ n → ones S ≡ 1 → S ≡ 2 ^ lowest n S
+single-of-ones n S h e =
+    sym (sub-full (2 ^ lowest n S) S (sub-single S (lowest n S) (lowest-in n S some h)) (omega (arith, e, ones-pow (lowest n S))))
+  where
+    some : 0 < S
+    some = elim (eq-zero-or-pos S) [ inl z ↦ omega (arith, e, ap ones z, ones-zero) | inr p ↦ p ]

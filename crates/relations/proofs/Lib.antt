@@ -1,0 +1,16 @@
+pub mod Turns
+pub mod Following
+pub mod Drawing
+pub mod Bits
+pub mod Counts
+pub mod Leads
+pub mod Growth
+pub mod Connected
+pub mod Sums
+pub mod Trees
+pub mod Halves
+pub mod Splits
+pub mod Unions
+pub mod JoinCounts
+pub mod SubqueryCount
+pub mod Subqueries

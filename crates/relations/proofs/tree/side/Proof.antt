@@ -1,0 +1,24 @@
+-- The join's first relation grows within all relations, skipping the join.
+use native.Mathlib.Omega.{arith}
+use Rattle.relations.specs.Trees.{side, part}
+use Rattle.relations.proofs.Drawing.{single-growable}
+use Rattle.relations.proofs.Following.{ends-low}
+use borrow.Author.Needs.{needs}
+use Rattle.relations.proofs.tree.side.Statement.{statement}
+use Rattle.relations.proofs.tree.side.Tie as tie
+
+pub side-spec : {M : Type 1} → statement M
+unfolding side part
+side-spec =
+    tie.close
+    (tie.spec
+    (λ c. search needs)
+    (λ c κs. search needs)
+    (λ c. search needs)
+    (λ c. search needs)
+    (λ c κs. let s = c .before .before in
+    let ends = ends-low (s .args .t1) (s .args .e) (s .pre .0) (s .pre .1) in
+    omega arith)
+    (λ c κs. let d = c .before .before .before .pre .0 in
+    search (needs, single-growable, d .first-in, d .second-in))
+    (λ c. cc))

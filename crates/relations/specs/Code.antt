@@ -1,0 +1,70 @@
+-- What the contracts of the code cite besides the definitions: what each function asks of its joins, and what it answers.
+use Prim.Native.Nat.{ℕ, zero, suc, _+_, _^_, _≤_, _<_}
+use mathlib.Core.Path.{_≡_}
+use mathlib.Core.Bool.{Bool, true, false, _&&_}
+use mathlib.Core.List.{List}
+use lib.ListN.{length, getD}
+use lib.Dec.{leb, ltb}
+use Rattle.relations.specs.declared.Joins.{Joins}
+use Rattle.relations.specs.Sets.{Sub}
+use Rattle.relations.specs.Growth.{first, second, leads}
+use Rattle.relations.specs.Trees.{reaches, side, subqueries, Tree}
+
+-- Joins whose ends stand in two lists that a function is lent.
+abbrev pub joinsOf : ℕ → List ℕ → List ℕ → Joins
+joinsOf m f s = record { count = m; first = f; second = s }
+
+-- At most eight joins, each between two of the relations: what refusals 2 and 3 leave.
+pub record Drawn (J : Joins) : Type 0 where
+  pub few : J .count ≤ 8
+  pub first-in : (e : ℕ) → e < J .count → first J e < J .count + 1
+  pub second-in : (e : ℕ) → e < J .count → second J e < J .count + 1
+
+-- A tree of at most eight joins whose ends stand in two lists that a function is lent.
+pub record LentTree (m : ℕ) (f s : List ℕ) : Type 0 where
+  pub few : m ≤ 8
+  pub first-long : m ≤ length f
+  pub second-long : m ≤ length s
+  pub tree : Tree (joinsOf m f s) (m + 1)
+
+-- Join e is one of at most eight, and its relations are bits of a word.
+pub record Ends (J : Joins) (e : ℕ) : Type 0 where
+  pub low : e < 8
+  pub first-low : first J e < 64
+  pub second-low : second J e < 64
+
+-- What growth asks: a set of relations, and a part of it to grow from.
+pub record Growable (J : Joins) (S A : ℕ) : Type 0 where
+  pub drawn : Drawn J
+  pub in-all : S < 2 ^ (J .count + 1)
+  pub taken-in : Sub A S
+
+-- e is the lowest join that leads out of A within S, skipping x, and the count of joins where none does.
+pub record FirstLeading (J : Joins) (S x A e : ℕ) : Type 0 where
+  pub range : e ≤ J .count
+  pub below : (i : ℕ) → i < e → leads J S x A i ≡ false
+  pub found : e < J .count → leads J S x A e ≡ true
+
+-- The first m entries of the list are the sides of the first m joins.
+pub record SidesOf (J : Joins) (l : List ℕ) (m : ℕ) : Type 0 where
+  pub eight : length l ≡ 8
+  pub each : (e : ℕ) → e < m → getD l e 0 ≡ side J (J .count + 1) e
+
+-- One more where the test holds.
+abbrev pub tally : Bool → ℕ → ℕ
+tally true n = suc n
+tally false n = n
+
+-- The ends of the first m joins are below n.
+unfoldable pub endsBelow : Joins → ℕ → ℕ → Bool
+endsBelow J n zero = true
+endsBelow J n (suc m) = endsBelow J n m && (ltb (first J m) n && ltb (second J m) n)
+
+-- n where the test holds, else 0.
+abbrev pub orNone : Bool → ℕ → ℕ
+orNone true n = n
+orNone false n = 0
+
+-- The number of subqueries of any joins, and 0 where they are more than eight or make no tree.
+unfoldable pub counted : Joins → ℕ
+counted J = orNone ((leb (J .count) 8 && endsBelow J (J .count + 1) (J .count)) && reaches J (J .count + 1)) (subqueries J (J .count + 1))

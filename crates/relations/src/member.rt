@@ -1,0 +1,44 @@
+// Membership in a set of relations, and a set with one relation more.
+ghost use Prim.Native.Nat.{_+_, _-_, _^_, _<_};
+ghost use mathlib.Core.Path.{_≡_};
+ghost use lib.Dec.{eqb};
+ghost use Rattle.relations.specs.Sets.{bit, put, all};
+
+// 1 where relation r is in the set, else 0.
+pub fn bit(set: usize, r: usize) -> usize
+    ensures value { λ v. ⌜ v ≡ bit set r ⌝ }
+    ensures small { λ v. ⌜ v < 2 ⌝ }
+{
+    if r < 64 { (set >> r) % 2 } else { 0 }
+}
+
+// Relations f and s are both in the set.
+pub fn both(set: usize, f: usize, s: usize) -> bool
+    ensures { λ r. ⌜ r ≡ eqb (bit set f + bit set s) 2 ⌝ }
+{
+    bit(set, f) + bit(set, s) == 2
+}
+
+// The set with relation r, whether r was in it or not.
+pub fn with(set: usize, r: usize) -> usize
+    requires { ⌜ r < 64 ⌝ }
+    ensures { λ v. ⌜ v ≡ put set r ⌝ }
+{
+    set | single(r)
+}
+
+// The set of relation r alone.
+pub fn single(r: usize) -> usize
+    requires { ⌜ r < 64 ⌝ }
+    ensures { λ v. ⌜ v ≡ 2 ^ r ⌝ }
+{
+    1 << r
+}
+
+// The set of the n relations 0 to n - 1.
+pub fn whole(n: usize) -> usize
+    requires { ⌜ n < 64 ⌝ }
+    ensures { λ v. ⌜ v ≡ all n ⌝ }
+{
+    single(n) - 1
+}
