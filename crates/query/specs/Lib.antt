@@ -4,4 +4,5 @@ pub mod Fields
 pub mod Decode
 pub mod Query
 pub mod Prices
+pub mod Indexed
 pub mod Theorems

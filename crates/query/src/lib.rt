@@ -1,6 +1,8 @@
 // The query, its file and its prices.
 use relations::Joins;
 
+pub mod price;
+
 // A count of bytes. Only a rate turns it into charge units.
 pub struct Bytes(pub u64);
 

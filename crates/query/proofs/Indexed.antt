@@ -1,0 +1,87 @@
+-- The index rule's law: the lowest relation of a set does not depend on the limit that the set is below, so neither does whether it is read by its index.
+use Prim.Native.Nat.{ℕ, zero, suc, _*_, _/_, _%_, _^_, _≤_, _<_, suc-le-suc}
+use native.Mathlib.Nat.{le-of-suc-le-suc}
+use native.Mathlib.Omega.{arith}
+use mathlib.Core.Path.{_≡_, refl, ap}
+use mathlib.Core.Bool.{Bool, true, false, _&&_}
+use mathlib.Core.List.{List}
+use mir.Syntax.{w64}
+use mir.Val.{Fits}
+use lib.ListN.{length, getD}
+use lib.Count.{ones, under, trailingZeros, trailing-le}
+use lib.Dec.{eqb}
+use borrow.Author.Tests.{eq-eqb, ne-eqb, eqb-true}
+use Rattle.query.specs.declared.Query.{Query}
+use Rattle.query.specs.Query.{home, index, relationsOf}
+use Rattle.query.specs.Prices.{indexed}
+use Rattle.query.specs.Indexed.{indexedIn}
+
+-- The lowest member of a set below 2 ^ n is the same for every greater limit.
+pub lowest-same : (n m S : ℕ) → 0 < S → S < 2 ^ n → n ≤ m → trailingZeros n S ≡ trailingZeros m S
+unfolding trailingZeros
+lowest-same zero m S p h l = absurd (omega arith)
+lowest-same (suc n) zero S p h l = absurd (omega arith)
+lowest-same (suc n) (suc m) S p h l =
+    go (S % 2) refl (λ z. lowest-same n m (S / 2) (omega arith) (omega arith) (le-of-suc-le-suc l))
+  where
+    go : (d : ℕ) → S % 2 ≡ d → (S % 2 ≡ 0 → trailingZeros n (S / 2) ≡ trailingZeros m (S / 2)) →
+        under d (trailingZeros n (S / 2)) ≡ under d (trailingZeros m (S / 2))
+    go zero e f = ap suc (f e)
+    go (suc d) e f = refl
+
+-- It is a member: below n.
+pub lowest-below : (n S : ℕ) → 0 < S → S < 2 ^ n → trailingZeros n S < n
+unfolding trailingZeros
+lowest-below zero S p h = absurd (omega arith)
+lowest-below (suc n) S p h = go (S % 2) refl (λ z. lowest-below n (S / 2) (omega arith) (omega arith))
+  where
+    go : (d : ℕ) → S % 2 ≡ d → (S % 2 ≡ 0 → trailingZeros n (S / 2) < n) → under d (trailingZeros n (S / 2)) < suc n
+    go zero e f = suc-le-suc (f e)
+    go (suc d) e f = omega arith
+
+-- A set of one relation is not empty.
+one-some : (S : ℕ) → ones S ≡ 1 → 0 < S
+unfolding ones
+one-some zero e = absurd (omega arith)
+one-some (suc S) e = omega arith
+
+-- The index rule for two limits that the set is below.
+pub indexed-same : (n m : ℕ) (homes indexes : List ℕ) (S k : ℕ) → S < 2 ^ n → n ≤ m → indexedIn n homes indexes S k ≡ indexedIn m homes indexes S k
+unfolding indexedIn
+indexed-same n m homes indexes S k h l = go (eqb (ones S) 1) refl
+  where
+    go : (b : Bool) → eqb (ones S) 1 ≡ b →
+        (b && (eqb (getD homes (trailingZeros n S) 0) k && eqb (getD indexes (trailingZeros n S) 0) 1)) ≡ (b && (eqb (getD homes (trailingZeros m S) 0) k && eqb (getD indexes (trailingZeros m S) 0) 1))
+    go true e = rw (lowest-same n m S (one-some S (eqb-true (ones S) 1 e)) h l)
+    go false e = refl
+
+-- The index rule of a query is that of its lists.
+pub indexed-in : (q : Query) (n S k : ℕ) → S < 2 ^ relationsOf q → relationsOf q ≤ n → indexed q S k ≡ indexedIn n (q .relations .home) (q .relations .index) S k
+unfolding indexed indexedIn home index
+indexed-in q n S k h l = indexed-same (relationsOf q) n (q .relations .home) (q .relations .index) S k h l
+
+-- What `price::is_indexed` uses: it looks at the lowest of 64 digits.
+pub place-fits : (S : ℕ) → Fits w64 (trailingZeros 64 S)
+place-fits S = record { fits = omega (arith, trailing-le 64 S) }
+
+pub place-bytes : (S : ℕ) → Fits w64 (trailingZeros 64 S * 8)
+place-bytes S = record { fits = omega (arith, trailing-le 64 S) }
+
+nine : (S : ℕ) → ones S ≡ 1 → S < 512 → trailingZeros 9 S ≡ trailingZeros 64 S
+nine S e h = lowest-same 9 64 S (one-some S e) h (omega arith)
+
+pub place-in : (S : ℕ) (l : List ℕ) → ones S ≡ 1 → S < 512 → 9 ≤ length l → trailingZeros 64 S < length l
+place-in S l e h g = omega (arith, nine S e h, lowest-below 9 S (one-some S e) h)
+
+module _ (homes indexes : List ℕ) (S k : ℕ) where
+  pub not-one : (ones S ≡ 1 → ⊥) → false ≡ indexedIn 9 homes indexes S k
+  unfolding indexedIn
+  not-one h = rw (ne-eqb (ones S) 1 h)
+
+  pub not-home : ones S ≡ 1 → S < 512 → (getD homes (trailingZeros 64 S) 0 ≡ k → ⊥) → false ≡ indexedIn 9 homes indexes S k
+  unfolding indexedIn
+  not-home e h g = rw (eq-eqb (ones S) 1 e, nine S e h, ne-eqb (getD homes (trailingZeros 64 S) 0) k g)
+
+  pub by-flag : ones S ≡ 1 → S < 512 → getD homes (trailingZeros 64 S) 0 ≡ k → eqb (getD indexes (trailingZeros 64 S) 0) 1 ≡ indexedIn 9 homes indexes S k
+  unfolding indexedIn
+  by-flag e h g = rw (eq-eqb (ones S) 1 e, nine S e h, eq-eqb (getD homes (trailingZeros 64 S) 0) k g)

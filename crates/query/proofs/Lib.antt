@@ -1,0 +1,4 @@
+pub mod Prices
+pub mod Valid
+pub mod Linked
+pub mod Indexed
