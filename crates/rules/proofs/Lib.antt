@@ -1,0 +1,4 @@
+pub mod Steps
+pub mod CostIsSum
+pub mod Kept
+pub mod Runs
