@@ -1,1 +1,5 @@
 // The two tables of equations (8) and (9): the cheapest plan of every subquery at every site.
+mod cells;
+mod joins;
+mod sends;
+mod splits;
