@@ -34,13 +34,13 @@ module _ (homes indexes : List ℕ) (S : ℕ) where
   unfolding sparedAt
   spared-many h = rw (ne-eqb (ones S) 1 h)
 
-  pub spared-home : ones S ≡ 1 → getD indexes (trailingZeros 64 S) 0 ≡ 1 → getD homes (trailingZeros 64 S) 0 ≡ sparedAt homes indexes S
+  pub spared-home : (r : ℕ) → r ≡ trailingZeros 64 S → ones S ≡ 1 → getD indexes r 0 ≡ 1 → getD homes r 0 ≡ sparedAt homes indexes S
   unfolding sparedAt
-  spared-home e h = rw (eq-eqb (ones S) 1 e, eq-eqb (getD indexes (trailingZeros 64 S) 0) 1 h)
+  spared-home r is e h = rw (eq-eqb (ones S) 1 e, ← is, eq-eqb (getD indexes r 0) 1 h)
 
-  pub spared-none : ones S ≡ 1 → (getD indexes (trailingZeros 64 S) 0 ≡ 1 → ⊥) → 8 ≡ sparedAt homes indexes S
+  pub spared-none : (r : ℕ) → r ≡ trailingZeros 64 S → ones S ≡ 1 → (getD indexes r 0 ≡ 1 → ⊥) → 8 ≡ sparedAt homes indexes S
   unfolding sparedAt
-  spared-none e h = rw (eq-eqb (ones S) 1 e, ne-eqb (getD indexes (trailingZeros 64 S) 0) 1 h)
+  spared-none r is e h = rw (eq-eqb (ones S) 1 e, ← is, ne-eqb (getD indexes r 0) 1 h)
 
 -- What a trial comes to.
 pub trial-is : (work fixed rate : List ℕ) (x : Split) (k a b r p : ℕ) → a ≡ place (x .first .set) k → b ≡ place (x .second .set) k →

@@ -4,15 +4,18 @@ use Prim.Native.Nat.{ℕ, zero, suc, _+_, _-_, _*_, _^_, _≤_, _<_}
 use mathlib.Core.Path.{_≡_}
 use mathlib.Core.Bool.{Bool, true, false}
 use mathlib.Core.List.{List}
-use lib.ListN.{length, getD}
+use lib.ListN.{length, getD, drop}
 use lib.Bits.{bitAnd}
 use lib.Count.{ones, trailingZeros}
 use lib.Dec.{eqb, ltb}
 use Rattle.relations.specs.Sets.{bit}
+use Rattle.relations.specs.Trees.{Subquery}
+use Rattle.query.specs.declared.Query.{Query}
 use Rattle.query.specs.Choice.{pick}
 use Rattle.query.specs.Cost.{Cost, none, some}
-use Rattle.query.specs.Query.{UpTo}
+use Rattle.query.specs.Query.{relationsOf, sitesOf, UpTo}
 use Rattle.query.specs.Prices.{reads}
+use Rattle.tables.specs.Tables.{delivered, joinsBelow}
 use Rattle.tables.specs.declared.cells.Choice.{Choice}
 use Rattle.tables.specs.declared.splits.Operand.{Operand}
 use Rattle.tables.specs.declared.splits.Split.{Split}
@@ -160,3 +163,15 @@ pub record Stored (old new : List ℕ) (S s : ℕ) (g : ℕ → ℕ) : Type 0 wh
   pub long : length new ≡ length old
   pub each : (t : ℕ) → t < s → getD new (place S t) 0 ≡ g t
   pub other : (i : ℕ) → ((t : ℕ) → t < s → i ≡ place S t → ⊥) → getD new i 0 ≡ getD old i 0
+
+-- The cells of every subquery below m hold Delivered.
+pub record Filled (q : Query) (work : List ℕ) (m : ℕ) : Type 0 where
+  pub room : 4096 ≤ length work
+  pub each : (S t : ℕ) → S < m → Subquery (q .joins) (relationsOf q) S → t < sitesOf q → getD work (place S t) 0 ≡ mark (delivered _+_ q S t)
+
+-- What filling the work area leaves: every subquery's cells, the later cells as they were, and the number of joins in all subqueries.
+pub record FilledFrom (q : Query) (old new : List ℕ) (r : ℕ) : Type 0 where
+  pub cells : Filled q new (2 ^ relationsOf q)
+  pub long : length new ≡ length old
+  pub later : drop 4096 new ≡ drop 4096 old
+  pub joins : r ≡ joinsBelow (q .joins) (relationsOf q) (2 ^ relationsOf q)

@@ -6,6 +6,8 @@ use query::price::join_price;
 use query::price::reads;
 ghost use Prim.Native.Nat.{_≤_, _<_};
 ghost use mathlib.Core.Path.{_≡_};
+ghost use lib.Count.{ones, trailingZeros};
+ghost use lib.ListN.{getD};
 ghost use Rattle.tables.specs.Code.{sparedAt, operandOf, splitOf, trialOf, Triable};
 
 // An operand of a join: its relations, its size, and the site where its read is spared, 8 for none.
@@ -22,6 +24,31 @@ pub struct Split {
     pub size: Bytes,
 }
 
+// The relation of a set of one.
+pub fn only(set: usize) -> usize
+    requires { ⌜ (ones set ≡ 1) × (set < 512) ⌝ }
+    ensures { λ r. ⌜ (r ≡ trailingZeros 64 set) × (r < 9) ⌝ }
+{
+    usize::trailing_zeros(set) as usize
+}
+
+// The home of the relation of a set of one.
+pub fn home_of(home: &[usize; 9], set: usize) -> usize
+    requires { ⌜ (ones set ≡ 1) × (set < 512) ⌝ }
+    ensures { λ r. ⌜ r ≡ getD (now (home .entry)) (trailingZeros 64 set) 0 ⌝ }
+{
+    let r = only(set);
+    home[r]
+}
+
+// The size of a set.
+pub fn size_of(sizes: &[u64; 512], set: usize) -> Bytes
+    requires { ⌜ set < 512 ⌝ }
+    ensures { λ r. ⌜ r .0 ≡ getD (now (sizes .entry)) set 0 ⌝ }
+{
+    Bytes(sizes[set])
+}
+
 // The site where the read of a set is spared: the home of a bare relation that has its index.
 fn spared_at<'a>(home: &'a [usize; 9], index: &'a [u64; 9], set: usize) -> usize
     requires { ⌜ set < 512 ⌝ }
@@ -30,7 +57,7 @@ fn spared_at<'a>(home: &'a [usize; 9], index: &'a [u64; 9], set: usize) -> usize
     if usize::count_ones(set) != 1 {
         return 8;
     }
-    let r = usize::trailing_zeros(set) as usize;
+    let r = only(set);
     if index[r] == 1 { home[r] } else { 8 }
 }
 
