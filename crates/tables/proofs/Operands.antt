@@ -13,8 +13,8 @@ use borrow.Author.Tests.{eq-eqb, ne-eqb, eqb-true}
 use Rattle.query.specs.Choice.{pick}
 use Rattle.query.specs.Prices.{reads}
 use Rattle.query.proofs.Indexed.{lowest-same, lowest-below}
-use Rattle.tables.specs.declared.splits.Operand.{Operand}
-use Rattle.tables.specs.declared.splits.Split.{Split}
+use Rattle.tables.specs.declared.splitting.Operand.{Operand}
+use Rattle.tables.specs.declared.splitting.Split.{Split}
 use Rattle.tables.specs.Code.{place, noneMark, sparedAt, operandOf, splitOf, trialOf, carriageAt}
 
 -- A set of one relation is not empty, and its relation is one of nine.

@@ -15,7 +15,7 @@ use borrow.Author.Count.{below-more}
 use Rattle.relations.specs.Sets.{bit}
 use Rattle.query.specs.Choice.{pick}
 use Rattle.tables.specs.declared.cells.Choice.{Choice}
-use Rattle.tables.specs.declared.splits.Split.{Split}
+use Rattle.tables.specs.declared.splitting.Split.{Split}
 use Rattle.tables.specs.Code.{place, noneMark, lesser, leastOf, placeOf, ChoiceOf, betterOf, trialOf, splitOf, splitBy, Lent, joinIn, joinTrial, Triable, Joinable, Row, Tried, joinedBelow, permittedAt, carriageAt, siteTrial, deliveredAt, Marked, Stored}
 use Rattle.tables.proofs.Figures.{place-apart, lesser-kept, least-most, choice-more, choice-same}
 

@@ -17,8 +17,8 @@ use Rattle.query.specs.Query.{relationsOf, sitesOf, UpTo}
 use Rattle.query.specs.Prices.{reads}
 use Rattle.tables.specs.Tables.{delivered, joinsBelow}
 use Rattle.tables.specs.declared.cells.Choice.{Choice}
-use Rattle.tables.specs.declared.splits.Operand.{Operand}
-use Rattle.tables.specs.declared.splits.Split.{Split}
+use Rattle.tables.specs.declared.splitting.Operand.{Operand}
+use Rattle.tables.specs.declared.splitting.Split.{Split}
 
 -- The place of the cell of S at site t.
 unfoldable pub place : ℕ → ℕ → ℕ

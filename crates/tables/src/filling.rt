@@ -1,10 +1,10 @@
 // Filling the work area: Delivered of every subquery at every site, sets in ascending number.
-use crate::joins::join_row;
-use crate::joins::permitted;
-use crate::sends::store_bare;
-use crate::sends::store_joined;
-use crate::splits::home_of;
-use crate::splits::size_of;
+use crate::joining::join_row;
+use crate::joining::permitted;
+use crate::sending::store_bare;
+use crate::sending::store_joined;
+use crate::splitting::home_of;
+use crate::splitting::size_of;
 use query::Query;
 use relations::is_subquery;
 use relations::sides;

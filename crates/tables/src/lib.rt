@@ -1,8 +1,8 @@
 // The two tables of equations (8) and (9): the cheapest plan of every subquery at every site.
 mod cells;
 mod filling;
-mod joins;
-mod sends;
-mod splits;
+mod joining;
+mod sending;
+mod splitting;
 
 pub use filling::fill;

@@ -5,12 +5,12 @@ use Rattle.tables.proofs.filling.fill.Lts as lts
 use Rattle.relations.proofs.single.Reads as single-reads
 use Rattle.relations.proofs.is_subquery.Reads as is-subquery-reads
 use Rattle.relations.proofs.sides.Reads as sides-reads
-use Rattle.tables.proofs.joins.join_row.Reads as join-row-reads
-use Rattle.tables.proofs.joins.permitted.Reads as permitted-reads
-use Rattle.tables.proofs.sends.store_bare.Reads as store-bare-reads
-use Rattle.tables.proofs.sends.store_joined.Reads as store-joined-reads
-use Rattle.tables.proofs.splits.home_of.Reads as home-of-reads
-use Rattle.tables.proofs.splits.size_of.Reads as size-of-reads
+use Rattle.tables.proofs.joining.join_row.Reads as join-row-reads
+use Rattle.tables.proofs.joining.permitted.Reads as permitted-reads
+use Rattle.tables.proofs.sending.store_bare.Reads as store-bare-reads
+use Rattle.tables.proofs.sending.store_joined.Reads as store-joined-reads
+use Rattle.tables.proofs.splitting.home_of.Reads as home-of-reads
+use Rattle.tables.proofs.splitting.size_of.Reads as size-of-reads
 
 abbrev Inv-loop : tie.InvT-loop
 Inv-loop work₀ q count sites around end tried₀ set₀ work tried set = ?
