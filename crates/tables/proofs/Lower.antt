@@ -1,27 +1,23 @@
 -- No allowed plan is cheaper than the tables. Each held result of a plan has cost at least its table: Delivered for a sent result, Joined for
 -- a joined one, nothing for a bare relation. A join's operands are the parts of their union, so Joined has that join among its candidates.
-use Prim.Native.Nat.{ℕ, _+_, _-_, _^_, _≤_, _<_, zero-le}
-use mathlib.Core.Path.{_≡_, refl, sym, ap, subst, _∙_}
-use mathlib.Core.Bool.{Bool, true, false, _||_}
+use Prim.Native.Nat.{ℕ, _+_, _-_, _≤_, _<_, zero-le}
+use mathlib.Core.Path.{_≡_, ap, subst, _∙_}
+use mathlib.Core.Bool.{Bool, true, false}
 use mathlib.Core.Logic.{_⊎_, inl, inr}
 use mathlib.Core.List.{List}
 use lib.Count.{ones}
-use lib.Dec.{eqb}
 use native.Mathlib.Nat.{le-refl, add-comm}
 use native.Mathlib.Omega.{arith}
-use borrow.Author.Tests.{eqb-true}
-use Rattle.relations.specs.declared.Joins.{Joins}
 use Rattle.relations.specs.Sets.{bit, Apart, all}
 use Rattle.relations.specs.Growth.{first, second}
-use Rattle.relations.specs.Trees.{Subquery, part, rest}
+use Rattle.relations.specs.Trees.{Subquery}
 use Rattle.relations.specs.Theorems.{Union}
-use Rattle.relations.proofs.Bits.{bit-le}
 use Rattle.relations.proofs.Counts.{ones-add, ones-pow, lowest-pow}
 use Rattle.relations.proofs.Leads.{both-true}
 use Rattle.relations.proofs.Unions.{union}
 use Rattle.relations.proofs.Subqueries.{subqueries-law}
 use Rattle.query.specs.declared.Query.{Query}
-use Rattle.query.specs.Cost.{Cost, none, some, both, plus, AtMost}
+use Rattle.query.specs.Cost.{some, both, AtMost}
 use Rattle.query.specs.Query.{Valid, relationsOf, sitesOf, home, mayJoin, isOpen}
 use Rattle.query.specs.Prices.{linePrice, carriage, joinPrice, indexed}
 use Rattle.query.proofs.Prices.{join-either, spared-cheaper, carriage-stays, carriage-sent}
@@ -30,25 +26,12 @@ use Rattle.rules.specs.declared.Origin.the-variants.{Bare, Sent, Joined}
 use Rattle.rules.specs.declared.Held.{Held}
 use Rattle.rules.specs.Machine.{isBare, isSent, sentTo, links, spared, joinOf}
 use Rattle.rules.specs.Plans.{AllowedAt}
+use Rattle.rules.proofs.Links.{links-means}
 use Rattle.rules.proofs.Kept.{bareOf, Keeps, Ends, allowed-ends}
-use Rattle.tables.specs.Tables.{firstPart, otherPart, only, byJoin, bySite, delivered, joined, cheapest}
+use Rattle.tables.specs.Tables.{only, byJoin, bySite, delivered, joined, cheapest}
 use Rattle.tables.specs.Theorems.{Combines, CheapestLaw}
 use Rattle.tables.proofs.Costs.{at-most-is, at-most-more, both-most, plus-most}
-use Rattle.tables.proofs.Tables.{ones-some, delivered-one, delivered-most, joined-most}
-
--- One end of join e in each of P and R, either way round.
-pub links-means : (J : Joins) (e P R : ℕ) → links J e P R ≡ true →
-    ((bit P (first J e) ≡ 1) × (bit R (second J e) ≡ 1)) ⊎ ((bit P (second J e) ≡ 1) × (bit R (first J e) ≡ 1))
-unfolding links
-links-means J e P R h = go (eqb (bit P (first J e) + bit R (second J e)) 2) refl h
-  where
-    ends : (x y : ℕ) → x ≤ 1 → y ≤ 1 → eqb (x + y) 2 ≡ true → (x ≡ 1) × (y ≡ 1)
-    ends x y a b t = let two = eqb-true (x + y) 2 t in (omega arith, omega arith)
-
-    go : (t : Bool) → eqb (bit P (first J e) + bit R (second J e)) 2 ≡ t → (t || eqb (bit P (second J e) + bit R (first J e)) 2) ≡ true →
-        ((bit P (first J e) ≡ 1) × (bit R (second J e) ≡ 1)) ⊎ ((bit P (second J e) ≡ 1) × (bit R (first J e) ≡ 1))
-    go true one other = inl (ends (bit P (first J e)) (bit R (second J e)) (bit-le P (first J e)) (bit-le R (second J e)) one)
-    go false one other = inr (ends (bit P (second J e)) (bit R (first J e)) (bit-le P (second J e)) (bit-le R (first J e)) other)
+use Rattle.tables.proofs.Tables.{ones-some, delivered-one, delivered-within, joined-within}
 
 module _ (combine : ℕ → ℕ → ℕ) (laws : Combines combine) (q : Query) (v : Valid q) where
   abbrev Bounded : Origin → ℕ → ℕ → ℕ → Type 0
@@ -69,7 +52,7 @@ module _ (combine : ℕ → ℕ → ℕ) (laws : Combines combine) (q : Query) (
       (delivered-one combine q v S k s one ∙ ap (λ (a : ℕ). carriage q S a k) there ∙ carriage-stays q S k) zero-le
   reaches Sent S k x s l b = b
   reaches Joined S k x s l (b, more) =
-      delivered-most combine q v S k k x s more l
+      delivered-within combine q v S k k x s more l
       (at-most-more (bySite (joined combine q S) q S k k) (x + 0) x (omega arith)
       (plus-most (joined combine q S k) (carriage q S k k) x 0 b (at-most-is (carriage q S k k) 0 0 (carriage-stays q S k) zero-le)))
 
@@ -81,7 +64,7 @@ module _ (combine : ℕ → ℕ → ℕ) (laws : Combines combine) (q : Query) (
       (delivered-one combine q v S t s one ∙ ap (λ (a : ℕ). carriage q S a t) there ∙ carriage-sent q S k t away opened) (omega arith)
   sends Sent S k t x s l away opened fresh b = absurd (let lie : _≡_ {A = ℕ} 0 1 = cc in omega arith)
   sends Joined S k t x s l away opened fresh (b, more) =
-      delivered-most combine q v S t k (x + linePrice q S k t) s more l
+      delivered-within combine q v S t k (x + linePrice q S k t) s more l
       (plus-most (joined combine q S k) (carriage q S k t) x (linePrice q S k t) b
       (at-most-is (carriage q S k t) (linePrice q S k t) (linePrice q S k t) (carriage-sent q S k t away opened) (le-refl _)))
 
@@ -91,7 +74,7 @@ module _ (combine : ℕ → ℕ → ℕ) (laws : Combines combine) (q : Query) (
       AtMost (joined combine q (P + R) k) (combine x y + z)
   unfolding byJoin
   makes P R e k x y z u l may one other price =
-      joined-most combine q v (P + R) k e (combine x y + z) may l
+      joined-within combine q v (P + R) k e (combine x y + z) may l
       (rw (u .within, u .second-is, u .first-is)
       (plus-most (both combine (delivered combine q P k) (delivered combine q R k)) (some (joinPrice q k (indexed q P k) P (indexed q R k) R)) (combine x y) z
       (both-most combine (laws .mono) (delivered combine q P k) (delivered combine q R k) x y one other) price))
