@@ -27,7 +27,7 @@ pub record Kept (n : ℕ) (b : Best) (x i : ℕ) : Type 0 where
   pub at-is : i ≡ b .at
   pub most : UpToOr n (b .cost)
 
-mark-most : (n : ℕ) (c : Cost) → n < noneMark → UpToOr n c → mark c ≤ noneMark
+pub mark-most : (n : ℕ) (c : Cost) → n < noneMark → UpToOr n c → mark c ≤ noneMark
 mark-most n none l h = le-refl _
 mark-most n (some c) l h = omega arith
 
