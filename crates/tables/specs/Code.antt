@@ -5,17 +5,19 @@ use mathlib.Core.Path.{_≡_}
 use mathlib.Core.Bool.{Bool, true, false}
 use mathlib.Core.List.{List}
 use lib.ListN.{length, getD, drop}
+use lib.Seq.{sets}
 use lib.Bits.{bitAnd}
 use lib.Count.{ones, trailingZeros}
 use lib.Dec.{eqb, ltb}
 use Rattle.relations.specs.Sets.{bit}
 use Rattle.relations.specs.Trees.{Subquery}
+use Rattle.relations.specs.Code.{SidesOf}
 use Rattle.query.specs.declared.Query.{Query}
 use Rattle.query.specs.Choice.{pick}
 use Rattle.query.specs.Cost.{Cost, none, some}
-use Rattle.query.specs.Query.{relationsOf, sitesOf, UpTo}
+use Rattle.query.specs.Query.{relationsOf, sitesOf, UpTo, Valid}
 use Rattle.query.specs.Prices.{reads}
-use Rattle.tables.specs.Tables.{delivered, joinsBelow}
+use Rattle.tables.specs.Tables.{delivered, joined, joinsBelow}
 use Rattle.tables.specs.declared.cells.Choice.{Choice}
 use Rattle.tables.specs.declared.splitting.Operand.{Operand}
 use Rattle.tables.specs.declared.splitting.Split.{Split}
@@ -175,3 +177,28 @@ pub record FilledFrom (q : Query) (old new : List ℕ) (r : ℕ) : Type 0 where
   pub long : length new ≡ length old
   pub later : drop 4096 new ≡ drop 4096 old
   pub joins : r ≡ joinsBelow (q .joins) (relationsOf q) (2 ^ relationsOf q)
+
+-- Bytes stored one after another from a place on.
+pub record Wrote (old : List ℕ) (at : ℕ) (bytes : List ℕ) (r : ℕ) (new : List ℕ) : Type 0 where
+  pub next : r ≡ at + length bytes
+  pub stored : new ≡ sets old at bytes
+
+-- What the writer knows of a query and a subquery S: the sides of the joins, and every subquery's cells.
+pub record Known (q : Query) (around work : List ℕ) (S : ℕ) : Type 0 where
+  pub valid : Valid q
+  pub sides : SidesOf (q .joins) around (q .joins .count)
+  pub filled : Filled q work (2 ^ relationsOf q)
+  pub subquery : Subquery (q .joins) (relationsOf q) S
+
+-- S is to be written as it is delivered at t, or as it is joined at k: there is a way.
+pub record ToDeliver (q : Query) (around work : List ℕ) (S t : ℕ) : Type 0 where
+  pub known : Known q around work S
+  pub listed : t < sitesOf q
+  pub cost : ℕ
+  pub cost-is : delivered _+_ q S t ≡ some cost
+
+pub record ToJoin (q : Query) (around work : List ℕ) (S k : ℕ) : Type 0 where
+  pub known : Known q around work S
+  pub listed : k < sitesOf q
+  pub cost : ℕ
+  pub cost-is : joined _+_ q S k ≡ some cost

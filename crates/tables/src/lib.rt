@@ -4,5 +4,7 @@ mod filling;
 mod joining;
 mod sending;
 mod splitting;
+mod writing;
 
 pub use filling::fill;
+pub use writing::write_plan;
