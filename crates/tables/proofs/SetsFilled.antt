@@ -42,7 +42,7 @@ later-same n old new long same =
     (λ i h. getD-drop n new i 0 ∙ same (n + i) (omega arith) ∙ sym (getD-drop n old i 0))
 
 -- The joins in the subqueries below m are few.
-joins-few : (J : Joins) (n m : ℕ) → m ≤ 512 → joinsBelow J n m ≤ 8 * m
+pub joins-few : (J : Joins) (n m : ℕ) → m ≤ 512 → joinsBelow J n m ≤ 8 * m
 unfolding joinsBelow
 joins-few J n zero h = le-refl _
 joins-few J n (suc m) h = go (isSubquery J n m) (joins-few J n m (omega arith))

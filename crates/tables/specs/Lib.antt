@@ -3,4 +3,5 @@ pub mod Tables
 pub mod Plan
 pub mod Theorems
 pub mod Code
+pub mod Solved
 pub mod Rows

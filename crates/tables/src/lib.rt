@@ -3,8 +3,11 @@ mod cells;
 mod filling;
 mod joining;
 mod sending;
+mod solving;
 mod splitting;
 mod writing;
 
 pub use filling::fill;
+pub use solving::Solved;
+pub use solving::solve;
 pub use writing::write_plan;
