@@ -1,1 +1,13 @@
 // The two tables of equations (8) and (9): the cheapest plan of every subquery at every site.
+mod cells;
+mod filling;
+mod joining;
+mod sending;
+mod solving;
+mod splitting;
+mod writing;
+
+pub use filling::fill;
+pub use solving::Solved;
+pub use solving::solve;
+pub use writing::write_plan;

@@ -1,0 +1,61 @@
+// Filling the work area: Delivered of every subquery at every site, sets in ascending number.
+use crate::joining::join_row;
+use crate::joining::permitted;
+use crate::sending::store_bare;
+use crate::sending::store_joined;
+use crate::splitting::home_of;
+use crate::splitting::size_of;
+use query::Query;
+use relations::is_subquery;
+use relations::sides;
+use relations::single;
+ghost use Prim.Native.Nat.{_≤_};
+ghost use lib.ListN.{length};
+ghost use Rattle.query.specs.Query.{Valid};
+ghost use Rattle.tables.specs.Code.{FilledFrom};
+
+// Fills the cells of every subquery, and counts the joins in all of them.
+pub fn fill(q: Query, work: &mut [u64]) -> u64
+    requires { ⌜ Valid q × (4096 ≤ length (now work)) ⌝ }
+    ensures { λ r. ⌜ FilledFrom q (now (work .entry)) (now (work .exit)) r ⌝ }
+{
+    let count = q.joins.count;
+    let sites = q.sites.count;
+    let around = sides(q.joins);
+    let end = single(count + 1);
+    let mut tried = 0;
+    let mut set = 1;
+    while set < end {
+        if is_subquery(&q.joins.first, &q.joins.second, count, set) {
+            let relations = usize::count_ones(set) as u64;
+            let size = size_of(&q.sizes, set);
+            if relations == 1 {
+                let home = home_of(&q.relations.home, set);
+                store_bare(&mut *work, &q.lines.flag, &q.lines.fixed, &q.lines.rate, size, home, sites, set);
+                set += 1;
+                continue;
+            }
+            let tried_row = join_row(
+                &*work,
+                &around,
+                &q.joins.first,
+                &q.joins.second,
+                &q.relations.home,
+                &q.relations.index,
+                &q.sizes,
+                &q.sites.fixed,
+                &q.sites.rate,
+                count,
+                sites,
+                set,
+            );
+            let row = permitted(tried_row, &q.sites.may, sites);
+            store_joined(&mut *work, &row, &q.lines.flag, &q.lines.fixed, &q.lines.rate, size, sites, set);
+            tried = tried + (relations - 1);
+            set += 1;
+            continue;
+        }
+        set += 1;
+    }
+    tried
+}
