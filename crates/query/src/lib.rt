@@ -9,7 +9,8 @@ mod sizes;
 pub use decoding::Decoded;
 pub use decoding::decode;
 pub use decoding::no_query;
-pub use fields::part_from;
+pub use items::MOST_FIXED;
+pub use items::MOST_RATE;
 use relations::Joins;
 pub use sections::Outcome;
 
