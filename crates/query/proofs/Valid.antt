@@ -234,4 +234,4 @@ decoded file =
     (λ cut. tt))
 
 pub decode-valid : DecodeValid
-decode-valid file q e = rw e at (decoded file)
+decode-valid file q l e = rw e at (decoded file)

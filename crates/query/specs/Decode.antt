@@ -106,18 +106,18 @@ unfoldable pub decode : List ℕ → Read Query
 decode file =
     andThen (sitesSection file)
     (λ sites l.
-      andThen (relationsSection (sites .count) l)
-      (λ relations l.
-        andThen (joinsSection (relations .count) l)
-        (λ joins l.
-          pick (reaches joins (relations .count))
-          (andThen (sizesSection joins (relations .count) l)
-          (λ sizes l.
-            andThen (linesSection (sites .count) l)
-            (λ lines l.
-              andThen (deliverySection (sites .count) l)
-              (λ target l.
-                pick (eqb (length l) 0)
-                (value (record { sites = sites; relations = relations; joins = joins; sizes = sizes; lines = lines; target = target }) [])
-                (refused 5)))))
-          (refused 4))))
+    andThen (relationsSection (sites .count) l)
+    (λ relations l.
+    andThen (joinsSection (relations .count) l)
+    (λ joins l.
+    pick (reaches joins (relations .count))
+    (andThen (sizesSection joins (relations .count) l)
+    (λ sizes l.
+    andThen (linesSection (sites .count) l)
+    (λ lines l.
+    andThen (deliverySection (sites .count) l)
+    (λ target l.
+    pick (eqb (length l) 0)
+    (value (record { sites = sites; relations = relations; joins = joins; sizes = sizes; lines = lines; target = target }) [])
+    (refused 5)))))
+    (refused 4))))

@@ -2,7 +2,7 @@
 use Prim.Native.Nat.{ℕ, _+_, _*_, _≤_}
 use mathlib.Core.Path.{_≡_}
 use mathlib.Core.Bool.{Bool}
-use mathlib.Core.List.{List, []}
+use mathlib.Core.List.{List}
 use Rattle.query.specs.declared.Query.{Query}
 use Rattle.query.specs.Fields.{value}
 use Rattle.query.specs.Decode.{decode}
@@ -11,7 +11,7 @@ use Rattle.query.specs.Prices.{linePrice, joinPrice, reads}
 
 -- Every decoded query keeps to document 01's counts and ranges, and its joins make a tree.
 abbrev pub DecodeValid : Type 0
-DecodeValid = (file : List ℕ) (q : Query) → decode file ≡ value q [] → Valid q
+DecodeValid = (file : List ℕ) (q : Query) (l : List ℕ) → decode file ≡ value q l → Valid q
 
 -- No line's price is above 1,000,001,000,000, no join's above 3,000,001,000,000.
 abbrev pub LineMost : Type 0

@@ -1,5 +1,17 @@
 // The query, its file and its prices.
+mod decoding;
+mod fields;
+mod items;
+mod line_section;
+mod sections;
+mod sizes;
+
+pub use decoding::Decoded;
+pub use decoding::decode;
+pub use decoding::no_query;
+pub use fields::part_from;
 use relations::Joins;
+pub use sections::Outcome;
 
 pub mod price;
 

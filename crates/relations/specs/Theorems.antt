@@ -51,7 +51,7 @@ pub record Union (J : Joins) (n P R e : ℕ) : Type 0 where
 abbrev pub UnionLaw : Type 0
 UnionLaw =
     (J : Joins) (n : ℕ) → Tree J n → (P R e : ℕ) → Subquery J n P → Subquery J n R → Apart P R → e < J .count → bit P (first J e) ≡ 1 →
-      bit R (second J e) ≡ 1 → Union J n P R e
+    bit R (second J e) ≡ 1 → Union J n P R e
 
 -- A split is a mask: the part is what the subquery shares with the join's side, which no subquery changes.
 abbrev pub PartBySide : Type 0

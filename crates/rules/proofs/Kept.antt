@@ -77,9 +77,13 @@ module _ (combine : ℕ → ℕ → ℕ) (q : Query) (P : Held → Type 0) (keep
   join-keeps e L (b ∷ (a ∷ hs)) known (M, pb, apart-b, sum-b, (N, pa, apart-a, sum-a, s)) =
       guarded Good ((eqb (a .site) (b .site) && mayJoin q (b .site)) && links (q .joins) e (a .set) (b .set)) 11 _ tt λ allowed.
       let outer = both-true (eqb (a .site) (b .site) && mayJoin q (b .site)) (links (q .joins) e (a .set) (b .set)) allowed in
-      let inner = both-true (eqb (a .site) (b .site)) (mayJoin q (b .site)) (outer .0) in
-      (N, keeps .joins e a b pa pb operands known (eqb-true (a .site) (b .site) (inner .0)) (inner .1) (outer .1),
-      (λ i. omega (arith, member i, bit-add (a .set) (b .set) operands i, apart-b i)), omega arith, s)
+      let inner = both-true (eqb (a .site) (b .site)) (mayJoin q (b .site)) (outer .0) in (
+        N,
+        keeps .joins e a b pa pb operands known (eqb-true (a .site) (b .site) (inner .0)) (inner .1) (outer .1),
+        (λ i. omega (arith, member i, bit-add (a .set) (b .set) operands i, apart-b i)),
+        omega arith,
+        s,
+      )
     where
       member : (i : ℕ) → bit M i ≡ bit (a .set) i + bit N i
       member i = rw (← sum-a) (bit-add (a .set) N apart-a i)

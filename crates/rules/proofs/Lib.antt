@@ -1,4 +1,5 @@
 pub mod Steps
+pub mod Links
 pub mod CostIsSum
 pub mod Kept
 pub mod Runs

@@ -1,21 +1,17 @@
 -- Running steps that keep the rules: each kind of step goes where its conditions hold, and lists of steps run one after the other.
 use Prim.Native.Nat.{ℕ, suc, _+_, _-_, _^_, _<_}
-use mathlib.Core.Path.{_≡_, refl, sym, ap, _∙_}
-use mathlib.Core.Bool.{Bool, true, false, not, _&&_, _||_}
+use mathlib.Core.Path.{_≡_, refl, ap, _∙_}
+use mathlib.Core.Bool.{true, false}
 use mathlib.Core.List.{List, [], _∷_, _++_}
 use lib.ListN.{length}
-use lib.Dec.{eqb, ltb}
 use native.Mathlib.Omega.{arith}
 use borrow.Author.Tests.{lt-ltb, eq-eqb, ne-eqb}
-use Rattle.relations.specs.Sets.{bit, all}
-use Rattle.relations.specs.Growth.{first, second}
-use Rattle.relations.specs.declared.Joins.{Joins}
+use Rattle.relations.specs.Sets.{bit}
 use Rattle.query.specs.declared.Query.{Query}
-use Rattle.query.specs.Choice.{pick}
 use Rattle.query.specs.Query.{relationsOf, sitesOf, mayJoin, isOpen}
 use Rattle.rules.specs.declared.Held.{Held}
-use Rattle.rules.specs.Machine.{Machine, Outcome, went, refused, guard, isSent, load, sentTo, sendTop, send, links, joinOf, joinTop, join, step}
-use Rattle.rules.specs.Plans.{Step, Verdict, accepted, after, finish, run}
+use Rattle.rules.specs.Machine.{Machine, Outcome, went, refused, isSent, load, sentTo, sendTop, send, links, joinOf, joinTop, join, step}
+use Rattle.rules.specs.Plans.{Step, after, finish, run}
 use Rattle.rules.proofs.Kept.{bareOf}
 
 -- Steps one after another, with no end condition.
@@ -37,10 +33,6 @@ pub send-goes : (combine : ℕ → ℕ → ℕ) (q : Query) (t L : ℕ) (h : Hel
     step combine q 2 t (record { loaded = L; stack = h ∷ hs }) ≡ went (record { loaded = L; stack = sentTo q t h ∷ hs })
 unfolding step send sendTop
 send-goes combine q t L h hs known away opened fresh = rw (lt-ltb t (sitesOf q) known, ne-eqb (h .site) t away, opened, fresh)
-
-pub links-of : (J : Joins) (e P R : ℕ) → bit P (first J e) ≡ 1 → bit R (second J e) ≡ 1 → links J e P R ≡ true
-unfolding links
-links-of J e P R one other = rw (eq-eqb (bit P (first J e) + bit R (second J e)) 2 (omega arith))
 
 pub join-goes : (combine : ℕ → ℕ → ℕ) (q : Query) (e L : ℕ) (a b : Held) (hs : List Held) → e < relationsOf q - 1 → a .site ≡ b .site → mayJoin q (b .site) ≡ true →
     links (q .joins) e (a .set) (b .set) ≡ true →

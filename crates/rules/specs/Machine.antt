@@ -83,7 +83,8 @@ joinOf combine q a b =
       set = a .set + b .set;
       site = b .site;
       origin = Joined;
-      figure = charge (combine (a .figure .0) (b .figure .0) + joinPrice q (b .site) (spared q a) (a .set) (spared q b) (b .set)) }
+      figure = charge (combine (a .figure .0) (b .figure .0) + joinPrice q (b .site) (spared q a) (a .set) (spared q b) (b .set));
+    }
 
 -- 3, join e: the top two, at one site that may join, one end of e in each, become one there.
 unfoldable pub joinTop : (ℕ → ℕ → ℕ) → Query → ℕ → ℕ → List Held → Outcome

@@ -1,11 +1,9 @@
 -- The tables' own equations. With at least as many rounds as relations the number of rounds does not matter, since the parts of a subquery
 -- have fewer relations; so each table is given by the other, each candidate bounds it, and a number in it comes from its best candidate.
 use Prim.Native.Nat.{ℕ, zero, suc, _+_, _≤_, _<_}
-use mathlib.Core.Path.{_≡_, refl, sym, ap, fun-ext, subst, _∙_}
+use mathlib.Core.Path.{_≡_, refl, sym, ap, fun-ext, _∙_}
 use mathlib.Core.Bool.{Bool, true, false}
 use lib.Count.{ones, ones-le}
-use lib.Dec.{eqb}
-use native.Mathlib.Nat.{le-refl}
 use native.Mathlib.Omega.{arith}
 use borrow.Author.Tests.{eq-eqb, ne-eqb}
 use Rattle.relations.specs.Growth.{inside}
@@ -19,7 +17,7 @@ use Rattle.query.specs.Choice.{pick}
 use Rattle.query.specs.Cost.{Cost, none, some, both, plus, AtMost}
 use Rattle.query.specs.Query.{Valid, relationsOf, sitesOf, home, mayJoin}
 use Rattle.query.specs.Prices.{carriage, joinPrice, indexed}
-use Rattle.tables.specs.Least.{Best, best, least}
+use Rattle.tables.specs.Least.{Best, least}
 use Rattle.tables.specs.Tables.{firstPart, otherPart, only, byJoin, joinedBy, bySite, deliveredBy, deliveredUpTo, delivered, joined}
 use Rattle.tables.specs.Plan.{bestSite, bestJoin}
 use Rattle.tables.specs.Theorems.{DeliveredIs}
@@ -34,11 +32,11 @@ pub ones-most : (q : Query) → Valid q → (S : ℕ) → Subquery (q .joins) (r
 ones-most q v S s = ones-le (relationsOf q) S (subqueries-law (q .joins) (relationsOf q) (v .tree) .range S s .1)
 
 module _ (combine : ℕ → ℕ → ℕ) (q : Query) (v : Valid q) where
-  abbrev Sub-q : ℕ → Type 0
-  Sub-q S = Subquery (q .joins) (relationsOf q) S
+  abbrev SubqueryHere : ℕ → Type 0
+  SubqueryHere S = Subquery (q .joins) (relationsOf q) S
 
   -- Joined of S asks Delivered of the parts of S alone.
-  by-join-same : (D E : ℕ → ℕ → Cost) (S k e : ℕ) → Sub-q S → e < q .joins .count → ((P : ℕ) → Sub-q P → ones P < ones S → D P k ≡ E P k) →
+  by-join-same : (D E : ℕ → ℕ → Cost) (S k e : ℕ) → SubqueryHere S → e < q .joins .count → ((P : ℕ) → SubqueryHere P → ones P < ones S → D P k ≡ E P k) →
       byJoin combine D q S k e ≡ byJoin combine E q S k e
   unfolding byJoin
   by-join-same D E S k e s l same = go (inside (q .joins) S e) refl
@@ -54,7 +52,7 @@ module _ (combine : ℕ → ℕ → ℕ) (q : Query) (v : Valid q) where
           rw (same (firstPart q S e) (parts .first-part) (parts .first-fewer), same (otherPart q S e) (parts .second-part) (parts .second-fewer))
       go false within = refl
 
-  joined-same : (D E : ℕ → ℕ → Cost) (S k : ℕ) → Sub-q S → ((P : ℕ) → Sub-q P → ones P < ones S → D P k ≡ E P k) →
+  joined-same : (D E : ℕ → ℕ → Cost) (S k : ℕ) → SubqueryHere S → ((P : ℕ) → SubqueryHere P → ones P < ones S → D P k ≡ E P k) →
       joinedBy combine D q S k ≡ joinedBy combine E q S k
   unfolding joinedBy
   joined-same D E S k s same =
@@ -62,7 +60,7 @@ module _ (combine : ℕ → ℕ → ℕ) (q : Query) (v : Valid q) where
       (best-same (byJoin combine D q S k) (byJoin combine E q S k) (q .joins .count) (λ e l. by-join-same D E S k e s l same))
 
   -- Once it is enough, the number of rounds does not matter.
-  rounds-same : (f g S t : ℕ) → Sub-q S → ones S ≤ f → ones S ≤ g → deliveredUpTo combine q f S t ≡ deliveredUpTo combine q g S t
+  rounds-same : (f g S t : ℕ) → SubqueryHere S → ones S ≤ f → ones S ≤ g → deliveredUpTo combine q f S t ≡ deliveredUpTo combine q g S t
   unfolding deliveredUpTo
   rounds-same zero g S t s l m = absurd (omega (arith, ones-some q v S s))
   rounds-same (suc f) zero S t s l m = absurd (omega (arith, ones-some q v S s))
@@ -71,33 +69,33 @@ module _ (combine : ℕ → ℕ → ℕ) (q : Query) (v : Valid q) where
       (fun-ext (λ k. joined-same (deliveredUpTo combine q f) (deliveredUpTo combine q g) S k s
       (λ P p fewer. rounds-same f g P k p (omega arith) (omega arith))))
 
-  pub delivered-eq : (S t : ℕ) → Sub-q S → delivered combine q S t ≡ deliveredBy (joined combine q S) q S t
+  pub delivered-eq : (S t : ℕ) → SubqueryHere S → delivered combine q S t ≡ deliveredBy (joined combine q S) q S t
   unfolding delivered joined deliveredUpTo
   delivered-eq S t s = rounds-same (relationsOf q) (suc (relationsOf q)) S t s (ones-most q v S s) (omega (arith, ones-most q v S s))
 
   -- Its two cases: one relation, and two or more.
-  pub delivered-one : (S t : ℕ) → Sub-q S → ones S ≡ 1 → delivered combine q S t ≡ carriage q S (home q (only q S)) t
+  pub delivered-one : (S t : ℕ) → SubqueryHere S → ones S ≡ 1 → delivered combine q S t ≡ carriage q S (home q (only q S)) t
   unfolding deliveredBy
   delivered-one S t s one = delivered-eq S t s ∙ rw (eq-eqb (ones S) 1 one)
 
-  pub delivered-more : (S t : ℕ) → Sub-q S → 1 < ones S → delivered combine q S t ≡ least (bySite (joined combine q S) q S t) (sitesOf q)
+  pub delivered-more : (S t : ℕ) → SubqueryHere S → 1 < ones S → delivered combine q S t ≡ least (bySite (joined combine q S) q S t) (sitesOf q)
   unfolding deliveredBy
   delivered-more S t s more = delivered-eq S t s ∙ rw (ne-eqb (ones S) 1 (λ e. omega arith))
 
   -- Each candidate bounds the table.
-  pub delivered-most : (S t k x : ℕ) → Sub-q S → 1 < ones S → k < sitesOf q → AtMost (bySite (joined combine q S) q S t k) x → AtMost (delivered combine q S t) x
-  delivered-most S t k x s more l h = rw (delivered-more S t s more) (least-most (bySite (joined combine q S) q S t) (sitesOf q) k x l h)
+  pub delivered-within : (S t k x : ℕ) → SubqueryHere S → 1 < ones S → k < sitesOf q → AtMost (bySite (joined combine q S) q S t k) x → AtMost (delivered combine q S t) x
+  delivered-within S t k x s more l h = rw (delivered-more S t s more) (least-most (bySite (joined combine q S) q S t) (sitesOf q) k x l h)
 
-  pub joined-most : (S k e x : ℕ) → mayJoin q k ≡ true → e < q .joins .count → AtMost (byJoin combine (delivered combine q) q S k e) x → AtMost (joined combine q S k) x
+  pub joined-within : (S k e x : ℕ) → mayJoin q k ≡ true → e < q .joins .count → AtMost (byJoin combine (delivered combine q) q S k e) x → AtMost (joined combine q S k) x
   unfolding joined joinedBy
-  joined-most S k e x may l h = rw may (least-most (byJoin combine (delivered combine q) q S k) (q .joins .count) e x l h)
+  joined-within S k e x may l h = rw may (least-most (byJoin combine (delivered combine q) q S k) (q .joins .count) e x l h)
 
   -- A number in a table comes from the best candidate.
   pub record BySite (S t k c : ℕ) : Type 0 where
     pub listed : k < sitesOf q
     pub sum : Two _+_ (joined combine q S k) (carriage q S k t) c
 
-  pub delivered-found : (S t c : ℕ) → Sub-q S → 1 < ones S → delivered combine q S t ≡ some c → BySite S t (bestSite combine q S t) c
+  pub delivered-found : (S t c : ℕ) → SubqueryHere S → 1 < ones S → delivered combine q S t ≡ some c → BySite S t (bestSite combine q S t) c
   unfolding bestSite
   delivered-found S t c s more e =
       let found = least-found (bySite (joined combine q S) q S t) (sitesOf q) c (sym (delivered-more S t s more) ∙ e) in
@@ -114,7 +112,7 @@ module _ (combine : ℕ → ℕ → ℕ) (q : Query) (v : Valid q) where
     pub other-is : delivered combine q (otherPart q S e) k ≡ some other
     pub made : c ≡ combine one other + joinPrice q k (indexed q (firstPart q S e) k) (firstPart q S e) (indexed q (otherPart q S e) k) (otherPart q S e)
 
-  by-join-found : (S k e c : ℕ) → Sub-q S → mayJoin q k ≡ true → e < q .joins .count → byJoin combine (delivered combine q) q S k e ≡ some c → ByJoin S k e c
+  by-join-found : (S k e c : ℕ) → SubqueryHere S → mayJoin q k ≡ true → e < q .joins .count → byJoin combine (delivered combine q) q S k e ≡ some c → ByJoin S k e c
   unfolding byJoin
   by-join-found S k e c s may l h =
       let price : ℕ = joinPrice q k (indexed q (firstPart q S e) k) (firstPart q S e) (indexed q (otherPart q S e) k) (otherPart q S e) in
@@ -137,7 +135,7 @@ module _ (combine : ℕ → ℕ → ℕ) (q : Query) (v : Valid q) where
       made : (c x y p z : ℕ) → c ≡ x + y → x ≡ z → p ≡ y → c ≡ z + p
       made c x y p z a b d = omega arith
 
-  pub joined-found : (S k c : ℕ) → Sub-q S → joined combine q S k ≡ some c → ByJoin S k (bestJoin combine q S k) c
+  pub joined-found : (S k c : ℕ) → SubqueryHere S → joined combine q S k ≡ some c → ByJoin S k (bestJoin combine q S k) c
   unfolding joined joinedBy bestJoin
   joined-found S k c s h =
       let test = picked (mayJoin q k) (least (byJoin combine (delivered combine q) q S k) (q .joins .count)) c h in

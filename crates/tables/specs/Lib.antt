@@ -3,3 +3,4 @@ pub mod Tables
 pub mod Plan
 pub mod Theorems
 pub mod Rows
+pub mod Vectors

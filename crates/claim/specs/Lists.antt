@@ -1,0 +1,77 @@
+-- Lists of calls: what a call brings, which planners a list can give, and the query in force, which is worked out from the list alone.
+use Prim.{tt}
+use Prim.Native.Nat.{ℕ}
+use mathlib.Core.Bool.{Bool, true, false}
+use mathlib.Core.List.{List, [], _∷_}
+use mathlib.Core.Option.{Option, none, some}
+use denote.Ref.{RefT, now}
+use contract.Lifetimes.{Lfts}
+use Rattle.query.specs.declared.Query.{Query}
+use Rattle.query.specs.Choice.{pick}
+use Rattle.query.specs.Fields.{Read, value}
+use Rattle.query.specs.Fields as fields
+use Rattle.query.specs.Decode.{decode}
+use Rattle.planner.specs.declared.Planner.{Planner}
+use Rattle.planner.specs.declared.AfterLoad.{AfterLoad}
+use Rattle.planner.specs.declared.AfterLink.{AfterLink}
+use Rattle.planner.specs.declared.AfterSolve.{AfterSolve}
+use Rattle.planner.specs.declared.ReadAnswer.{ReadAnswer}
+use Rattle.planner.specs.declared.CheckAnswer.{CheckAnswer}
+use Rattle.planner.specs.Calls.{Link, linkOf, sitesListed, termsInRange, relined}
+use Rattle.planner.proofs.calls.empty.Reads as Empty
+use Rattle.planner.proofs.calls.load.Reads as Load
+use Rattle.planner.proofs.calls.link.Reads as Link-reads
+use Rattle.planner.proofs.calls.solve.Reads as Solve
+use Rattle.planner.proofs.calls.read.Reads as Read-reads
+use Rattle.planner.proofs.calls.check.Reads as Check
+
+-- A call with its own arguments, input bytes and lent areas, with anything in them.
+pub data Call : Type 0 where
+  load : (file : List ℕ) → Call
+  link : (sender receiver opened fixed rate : ℕ) → Call
+  solve : (cells : List ℕ) → Call
+  read : (output : List ℕ) → Call
+  check : (plan : List ℕ) → Call
+
+-- What a call does to the query in force. An admitted load puts its query in force.
+abbrev pub afterLoad : Read Query → Option Query → Option Query
+afterLoad (fields.refused k) o = o
+afterLoad (value q l) o = some q
+
+-- An admitted link replaces the line from its sender to its receiver in the query in force.
+abbrev pub afterLink : Link → Option Query → Option Query
+afterLink l none = none
+afterLink l (some q) = pick (sitesListed q l) (pick (termsInRange (l .terms)) (some (relined q l)) (some q)) (some q)
+
+-- Solve, read, check and every refused call leave it as it is.
+abbrev pub force : Call → Option Query → Option Query
+force (load file) o = afterLoad (decode file) o
+force (link a b f x r) o = afterLink (linkOf a b f x r) o
+force (solve cells) o = o
+force (read output) o = o
+force (check plan) o = o
+
+-- The query in force after a list of calls, the latest first. At first there is none.
+unfoldable pub inForce : List Call → Option Query
+inForce [] = none
+inForce (c ∷ calls) = force c (inForce calls)
+
+-- The planners that a list of calls, the latest first, can give: the first call gets an empty planner, each later one the planner that
+-- the call before it returned or left. What a call returns is whatever its function's own contract (`Post`) allows, refused calls included.
+pub data Runs : List Call → Planner → Type 0 where
+  at-first : {p : Planner} → Empty.Post tt tt p tt → Runs [] p
+  loads :
+      {calls : List Call} {p : Planner} (κs : Lfts 1) (file last : RefT (List ℕ)) (r : AfterLoad) →
+      Runs calls p → Load.Post κs (p, (file, tt)) r (p, (last, tt)) → Runs (load (now file) ∷ calls) (r .planner)
+  links :
+      {calls : List Call} {p : Planner} (a b f x r : ℕ) (d : AfterLink) →
+      Runs calls p → Link-reads.Post tt (p, (a, (b, (f, (x, (r, tt)))))) d (p, (a, (b, (f, (x, (r, tt)))))) → Runs (link a b f x r ∷ calls) (d .planner)
+  solves :
+      {calls : List Call} {p : Planner} (κs : Lfts 1) (cells last : RefT (List ℕ)) (r : AfterSolve) →
+      Runs calls p → Solve.Post κs (p, (cells, tt)) r (p, (last, tt)) → Runs (solve (now cells) ∷ calls) (r .planner)
+  reads :
+      {calls : List Call} {p : Planner} (κs : Lfts 1) (output last : RefT (List ℕ)) (r : ReadAnswer) →
+      Runs calls p → Read-reads.Post κs (p, (output, tt)) r (p, (last, tt)) → Runs (read (now output) ∷ calls) p
+  checks :
+      {calls : List Call} {p : Planner} (κs : Lfts 1) (plan last : RefT (List ℕ)) (r : CheckAnswer) →
+      Runs calls p → Check.Post κs (p, (plan, tt)) r (p, (last, tt)) → Runs (check (now plan) ∷ calls) p

@@ -1,0 +1,69 @@
+// The planner: the standing state and the calls load, link, solve, read and check.
+mod calls;
+
+pub use calls::check;
+pub use calls::empty;
+pub use calls::link;
+pub use calls::load;
+pub use calls::read;
+use query::Charge;
+use query::Query;
+
+// The standing state. Its fields are private, so that only the calls make one.
+pub struct Planner {
+    // Whether a query stands, and the query.
+    loaded: bool,
+    query: Query,
+    // Whether a plan is kept; its cost, its length and its bytes.
+    kept: bool,
+    cost: Charge,
+    length: usize,
+    plan: [u8; 69],
+}
+
+// What load answers: the number of relations and of subqueries, or the refusal's number.
+pub enum LoadAnswer {
+    Loaded { relations: u64, subqueries: u64 },
+    Refused(u64),
+}
+
+// What link answers.
+pub enum LinkAnswer {
+    Linked,
+    Refused(u64),
+}
+
+// What solve answers: the kept plan's cost, or no route; and the trials.
+pub enum SolveAnswer {
+    Found { cost: Charge, trials: u64 },
+    NoRoute { trials: u64 },
+    Refused(u64),
+}
+
+// What read answers: the kept plan's length in bytes and its cost.
+pub enum ReadAnswer {
+    Wrote { length: u64, cost: Charge },
+    Refused(u64),
+}
+
+// What check answers: the plan's cost, or the refusal's number and place.
+pub enum CheckAnswer {
+    Accepted { cost: Charge },
+    Refused { number: u64, place: u64 },
+}
+
+// An answer beside the planner that the call leaves.
+pub struct AfterLoad {
+    pub answer: LoadAnswer,
+    pub planner: Planner,
+}
+
+pub struct AfterLink {
+    pub answer: LinkAnswer,
+    pub planner: Planner,
+}
+
+pub struct AfterSolve {
+    pub answer: SolveAnswer,
+    pub planner: Planner,
+}

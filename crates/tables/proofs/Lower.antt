@@ -1,0 +1,157 @@
+-- No allowed plan is cheaper than the tables. Each held result of a plan has cost at least its table: Delivered for a sent result, Joined for
+-- a joined one, nothing for a bare relation. A join's operands are the parts of their union, so Joined has that join among its candidates.
+use Prim.Native.Nat.{ℕ, _+_, _-_, _≤_, _<_, zero-le}
+use mathlib.Core.Path.{_≡_, ap, subst, _∙_}
+use mathlib.Core.Bool.{Bool, true, false}
+use mathlib.Core.Logic.{_⊎_, inl, inr}
+use mathlib.Core.List.{List}
+use lib.Count.{ones}
+use native.Mathlib.Nat.{le-refl, add-comm}
+use native.Mathlib.Omega.{arith}
+use Rattle.relations.specs.Sets.{bit, Apart, all}
+use Rattle.relations.specs.Growth.{first, second}
+use Rattle.relations.specs.Trees.{Subquery}
+use Rattle.relations.specs.Theorems.{Union}
+use Rattle.relations.proofs.Counts.{ones-add, ones-pow, lowest-pow}
+use Rattle.relations.proofs.Leads.{both-true}
+use Rattle.relations.proofs.Unions.{union}
+use Rattle.relations.proofs.Subqueries.{subqueries-law}
+use Rattle.query.specs.declared.Query.{Query}
+use Rattle.query.specs.Cost.{some, both, AtMost}
+use Rattle.query.specs.Query.{Valid, relationsOf, sitesOf, home, mayJoin, isOpen}
+use Rattle.query.specs.Prices.{linePrice, carriage, joinPrice, indexed}
+use Rattle.query.proofs.Prices.{join-either, spared-cheaper, carriage-stays, carriage-sent}
+use Rattle.rules.specs.declared.Origin.{Origin}
+use Rattle.rules.specs.declared.Origin.the-variants.{Bare, Sent, Joined}
+use Rattle.rules.specs.declared.Held.{Held}
+use Rattle.rules.specs.Machine.{isBare, isSent, sentTo, links, spared, joinOf}
+use Rattle.rules.specs.Plans.{AllowedAt}
+use Rattle.rules.proofs.Links.{links-means}
+use Rattle.rules.proofs.Kept.{bareOf, Keeps, Ends, allowed-ends}
+use Rattle.tables.specs.Tables.{only, byJoin, bySite, delivered, joined, cheapest}
+use Rattle.tables.specs.Theorems.{Combines, CheapestLaw}
+use Rattle.tables.proofs.Costs.{at-most-is, at-most-more, both-most, plus-most}
+use Rattle.tables.proofs.Tables.{ones-some, delivered-one, delivered-within, joined-within}
+
+module _ (combine : ℕ → ℕ → ℕ) (laws : Combines combine) (q : Query) (v : Valid q) where
+  abbrev Bounded : Origin → ℕ → ℕ → ℕ → Type 0
+  Bounded Bare S k x = (ones S ≡ 1) × (home q (only q S) ≡ k)
+  Bounded Sent S k x = AtMost (delivered combine q S k) x
+  Bounded Joined S k x = AtMost (joined combine q S k) x × (1 < ones S)
+
+  -- A held result: its set is a subquery, its site is listed, and its figure is no less than its table.
+  record Fine (h : Held) : Type 0 where
+    subquery : Subquery (q .joins) (relationsOf q) (h .set)
+    listed : h .site < sitesOf q
+    bounded : Bounded (h .origin) (h .set) (h .site) (h .figure .0)
+
+  -- Whatever a held result is, Delivered at its site is no more than its figure.
+  reaches : (o : Origin) (S k x : ℕ) → Subquery (q .joins) (relationsOf q) S → k < sitesOf q → Bounded o S k x → AtMost (delivered combine q S k) x
+  reaches Bare S k x s l (one, there) =
+      at-most-is (delivered combine q S k) 0 x
+      (delivered-one combine q v S k s one ∙ ap (λ (a : ℕ). carriage q S a k) there ∙ carriage-stays q S k) zero-le
+  reaches Sent S k x s l b = b
+  reaches Joined S k x s l (b, more) =
+      delivered-within combine q v S k k x s more l
+      (at-most-more (bySite (joined combine q S) q S k k) (x + 0) x (omega arith)
+      (plus-most (joined combine q S k) (carriage q S k k) x 0 b (at-most-is (carriage q S k k) 0 0 (carriage-stays q S k) zero-le)))
+
+  -- A send adds the price of its line.
+  sends : (o : Origin) (S k t x : ℕ) → Subquery (q .joins) (relationsOf q) S → k < sitesOf q → (k ≡ t → ⊥) → isOpen q k t ≡ true → isSent o ≡ false →
+      Bounded o S k x → AtMost (delivered combine q S t) (x + linePrice q S k t)
+  sends Bare S k t x s l away opened fresh (one, there) =
+      at-most-is (delivered combine q S t) (linePrice q S k t) (x + linePrice q S k t)
+      (delivered-one combine q v S t s one ∙ ap (λ (a : ℕ). carriage q S a t) there ∙ carriage-sent q S k t away opened) (omega arith)
+  sends Sent S k t x s l away opened fresh b = absurd (let lie : _≡_ {A = ℕ} 0 1 = cc in omega arith)
+  sends Joined S k t x s l away opened fresh (b, more) =
+      delivered-within combine q v S t k (x + linePrice q S k t) s more l
+      (plus-most (joined combine q S k) (carriage q S k t) x (linePrice q S k t) b
+      (at-most-is (carriage q S k t) (linePrice q S k t) (linePrice q S k t) (carriage-sent q S k t away opened) (le-refl _)))
+
+  -- A join of P, with e's first relation, and R, with its second, is a candidate of Joined of their union.
+  makes : (P R e k x y z : ℕ) → Union (q .joins) (relationsOf q) P R e → e < q .joins .count → mayJoin q k ≡ true →
+      AtMost (delivered combine q P k) x → AtMost (delivered combine q R k) y → joinPrice q k (indexed q P k) P (indexed q R k) R ≤ z →
+      AtMost (joined combine q (P + R) k) (combine x y + z)
+  unfolding byJoin
+  makes P R e k x y z u l may one other price =
+      joined-within combine q v (P + R) k e (combine x y + z) may l
+      (rw (u .within, u .second-is, u .first-is)
+      (plus-most (both combine (delivered combine q P k) (delivered combine q R k)) (some (joinPrice q k (indexed q P k) P (indexed q R k) R)) (combine x y) z
+      (both-most combine (laws .mono) (delivered combine q P k) (delivered combine q R k) x y one other) price))
+
+  spares : (h : Held) → spared q h ≡ true → indexed q (h .set) (h .site) ≡ true
+  unfolding spared
+  spares h e = both-true (isBare (h .origin)) (indexed q (h .set) (h .site)) e .1
+
+  -- A join of two results at k, either way round.
+  abbrev JoinedAt : (P R k x y : ℕ) (i j : Bool) → Type 0
+  JoinedAt P R k x y i j = Subquery (q .joins) (relationsOf q) (P + R) × AtMost (joined combine q (P + R) k) (combine x y + joinPrice q k i P j R)
+
+  joins-at : (P R e k x y : ℕ) (i j : Bool) → Subquery (q .joins) (relationsOf q) P → Subquery (q .joins) (relationsOf q) R → Apart P R → e < q .joins .count →
+      mayJoin q k ≡ true → links (q .joins) e P R ≡ true → (i ≡ true → indexed q P k ≡ true) → (j ≡ true → indexed q R k ≡ true) →
+      AtMost (delivered combine q P k) x → AtMost (delivered combine q R k) y → JoinedAt P R k x y i j
+  joins-at P R e k x y i j p r apart l may linked spared-p spared-r one other = go (links-means (q .joins) e P R linked)
+    where
+      cheaper : joinPrice q k (indexed q P k) P (indexed q R k) R ≤ joinPrice q k i P j R
+      cheaper = spared-cheaper q k i (indexed q P k) P j (indexed q R k) R spared-p spared-r
+
+      go : ((bit P (first (q .joins) e) ≡ 1) × (bit R (second (q .joins) e) ≡ 1)) ⊎ ((bit P (second (q .joins) e) ≡ 1) × (bit R (first (q .joins) e) ≡ 1)) →
+          JoinedAt P R k x y i j
+      go (inl (f, g)) =
+          let u : Union (q .joins) (relationsOf q) P R e = union (q .joins) (relationsOf q) (v .tree) P R e p r apart l f g in
+          (u .subquery, makes P R e k x y (joinPrice q k i P j R) u l may one other cheaper)
+      go (inr (f, g)) =
+          let u : Union (q .joins) (relationsOf q) R P e = union (q .joins) (relationsOf q) (v .tree) R P e r p (λ s. omega (arith, apart s)) l g f in
+          let dear : joinPrice q k (indexed q R k) R (indexed q P k) P ≤ joinPrice q k i P j R = rw (join-either q k (indexed q R k) R (indexed q P k) P) cheaper in
+          let bound = makes R P e k y x (joinPrice q k i P j R) u l may other one dear in
+          (subst (λ (S : ℕ). Subquery (q .joins) (relationsOf q) S) (add-comm R P) (u .subquery), rw (add-comm R P, laws .comm y x) at bound)
+
+  fine : Keeps combine q Fine
+  fine = record { loads = loaded; sends = sent; joins = made }
+    where
+      loaded : (r : ℕ) → r < relationsOf q → Fine (bareOf q r)
+      loaded r l =
+          record {
+            subquery = subqueries-law (q .joins) (relationsOf q) (v .tree) .single r l;
+            listed = v .homes r l;
+            bounded = (ones-pow r, ap (home q) (lowest-pow (relationsOf q) r l));
+          }
+
+      sent : (t : ℕ) (h : Held) → Fine h → t < sitesOf q → (h .site ≡ t → ⊥) → isOpen q (h .site) t ≡ true → isSent (h .origin) ≡ false → Fine (sentTo q t h)
+      sent t h f l away opened fresh =
+          record {
+            subquery = f .subquery;
+            listed = l;
+            bounded = sends (h .origin) (h .set) (h .site) t (h .figure .0) (f .subquery) (f .listed) away opened fresh (f .bounded);
+          }
+
+      at-site : (h : Held) → Fine h → AtMost (delivered combine q (h .set) (h .site)) (h .figure .0)
+      at-site h f = reaches (h .origin) (h .set) (h .site) (h .figure .0) (f .subquery) (f .listed) (f .bounded)
+
+      made : (e : ℕ) (a b : Held) → Fine a → Fine b → Apart (a .set) (b .set) → e < relationsOf q - 1 → a .site ≡ b .site → mayJoin q (b .site) ≡ true →
+          links (q .joins) e (a .set) (b .set) ≡ true → Fine (joinOf combine q a b)
+      made e a b fa fb apart known there may linked =
+          let known′ : e < q .joins .count = omega (arith, v .tree .joins) in
+          let both-at =
+          joins-at (a .set) (b .set) e (b .site) (a .figure .0) (b .figure .0) (spared q a) (spared q b) (fa .subquery) (fb .subquery) apart known′ may linked
+          (λ s. subst (λ (k : ℕ). indexed q (a .set) k ≡ true) there (spares a s)) (spares b)
+          (subst (λ (k : ℕ). AtMost (delivered combine q (a .set) k) (a .figure .0)) there (at-site a fa)) (at-site b fb) in
+          record {
+            subquery = both-at .0;
+            listed = fb .listed;
+            bounded = (both-at .1, omega (arith, ones-add (a .set) (b .set) apart, ones-some q v (a .set) (fa .subquery), ones-some q v (b .set) (fb .subquery)));
+          }
+
+  lower : (plan : List ℕ) (c : ℕ) → AllowedAt combine q plan c → AtMost (cheapest combine q) c
+  lower plan c allowed =
+      let end : Ends q Fine c = allowed-ends combine q Fine fine plan c allowed in
+      let h : Held = end .held in
+      let f : Fine h = end .kept in
+      let bound = reaches (h .origin) (h .set) (h .site) (h .figure .0) (f .subquery) (f .listed) (f .bounded) in
+      at-end (h .set) (h .site) (h .figure .0) (end .whole) (end .delivered) (end .figure) bound
+    where
+      at-end : (S t x : ℕ) → S ≡ all (relationsOf q) → t ≡ q .target → x ≡ c → AtMost (delivered combine q S t) x → AtMost (cheapest combine q) c
+      at-end S t x a b e h = rw (a, b, e) at h
+
+pub cheapest-law : CheapestLaw
+cheapest-law combine laws q v plan c allowed = lower combine laws q v plan c allowed

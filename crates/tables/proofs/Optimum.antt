@@ -1,0 +1,27 @@
+-- No route means no plan: the tables have none exactly when no list of bytes is an allowed plan, by the written plan and the lower bound.
+use Prim.Native.Nat.{ℕ, _+_}
+use mathlib.Core.Path.{_≡_, refl}
+use mathlib.Core.List.{List}
+use native.Mathlib.Nat.{add-comm}
+use native.Mathlib.Omega.{arith}
+use Rattle.query.specs.Cost.{Cost, none, some}
+use Rattle.rules.specs.Plans.{AllowedAt}
+use Rattle.tables.specs.Tables.{cheapest}
+use Rattle.tables.specs.Plan.{written}
+use Rattle.tables.specs.Theorems.{Combines, NoRouteLaw}
+use Rattle.tables.proofs.Lower.{cheapest-law}
+use Rattle.tables.proofs.Upper.{written-law}
+
+-- The sum is a combination of figures as the tables ask for.
+pub plus-combines : Combines _+_
+plus-combines = record { mono = λ a b x y l m. omega arith; comm = add-comm }
+
+pub no-route-law : NoRouteLaw
+no-route-law combine laws q v = (no-plan, no-number (cheapest combine q) refl)
+  where
+    no-plan : cheapest combine q ≡ none → (plan : List ℕ) (c : ℕ) → AllowedAt combine q plan c → ⊥
+    no-plan e plan c allowed = rw e at (cheapest-law combine laws q v plan c allowed)
+
+    no-number : (a : Cost) → cheapest combine q ≡ a → ((plan : List ℕ) (c : ℕ) → AllowedAt combine q plan c → ⊥) → a ≡ none
+    no-number none e none-allowed = refl
+    no-number (some c) e none-allowed = absurd (none-allowed (written combine q) c (written-law combine laws q v c e .allowed))

@@ -1,0 +1,81 @@
+-- Queries with their answers: cost, trials and the written plan's bytes. They tell what no law of the cheapest plan can: the ties, which part is
+-- written first, and the trials. `vectors-hold` in proofs/ is their one theorem.
+use Prim.Native.Nat.{ℕ, _+_}
+use mathlib.Core.Bool.{Bool, true, false, _&&_}
+use mathlib.Core.List.{List, [], _∷_}
+use lib.Dec.{eqb}
+use Rattle.relations.specs.declared.Joins.{Joins}
+use Rattle.query.specs.declared.Sites.{Sites}
+use Rattle.query.specs.declared.Relations.{Relations}
+use Rattle.query.specs.declared.Query.{Query}
+use Rattle.query.specs.Cost.{some}
+use Rattle.query.specs.Decode.{noLines}
+use Rattle.tables.specs.Tables.{cheapest, trials}
+use Rattle.tables.specs.Plan.{written}
+use Rattle.tables.specs.Rows.{filled, everyLine, Q, withTarget, withIndex, withMay, withLines, same}
+
+pub record Vector : Type 0 where
+  pub query : Query
+  pub cost : ℕ
+  pub trials : ℕ
+  pub plan : List ℕ
+
+-- One site that may join, join fixed 2, rate 1, the home of n relations; no index, no line, delivery there.
+abbrev pub atOneSite : ℕ → Joins → List ℕ → Query
+atOneSite n J sizes =
+    record {
+      sites = record { count = 1; may = filled 8 (1 ∷ []); fixed = filled 8 (2 ∷ []); rate = filled 8 (1 ∷ []) };
+      relations = record { count = n; home = filled 9 []; index = filled 9 [] };
+      joins = J;
+      sizes = filled 512 sizes;
+      lines = noLines;
+      target = 0;
+    }
+
+-- Relations 0, 1 and 2 in a chain, join 1 from 2 to 1, every size 1: either join may come last.
+abbrev pub evenChain : Query
+evenChain =
+    atOneSite 3 (record { count = 2; first = filled 8 (0 ∷ 2 ∷ []); second = filled 8 (1 ∷ 1 ∷ []) }) (0 ∷ 1 ∷ 1 ∷ 1 ∷ 1 ∷ 0 ∷ 1 ∷ 1 ∷ [])
+
+-- Relations 0 to 3 in a chain: each, 0 with 1, 2 with 3 and all have size 1, the other subqueries 9.
+abbrev pub twoPairs : Query
+twoPairs =
+    atOneSite 4 (record { count = 3; first = filled 8 (0 ∷ 1 ∷ 2 ∷ []); second = filled 8 (1 ∷ 2 ∷ 3 ∷ []) })
+    (0 ∷ 1 ∷ 1 ∷ 1 ∷ 1 ∷ 0 ∷ 9 ∷ 9 ∷ 1 ∷ 0 ∷ 0 ∷ 0 ∷ 1 ∷ 0 ∷ 9 ∷ 1 ∷ [])
+
+abbrev pub vectors : List Vector
+vectors =
+    -- Q: load 0, load 1, send 0, join 0.
+    record { query = Q; cost = 24; trials = 3; plan = 4 ∷ 1 ∷ 0 ∷ 1 ∷ 1 ∷ 2 ∷ 0 ∷ 3 ∷ 0 ∷ [] }
+    -- Lines for nothing and delivery 1: each site is as good, so it is joined at site 0, the lowest, and sent to 1.
+    ∷ record {
+      query = withTarget 1 (withLines (everyLine 3 3 (record { flag = 1; fixed = 0; rate = 0 })) Q);
+      cost = 19;
+      trials = 3;
+      plan = 5 ∷ 1 ∷ 0 ∷ 1 ∷ 1 ∷ 2 ∷ 0 ∷ 3 ∷ 0 ∷ 2 ∷ 1 ∷ [];
+    }
+    -- Join 0, the lowest, is the last; of join 1, relation 2, its first, is written first.
+    ∷ record { query = evenChain; cost = 10; trials = 4; plan = 5 ∷ 1 ∷ 0 ∷ 1 ∷ 2 ∷ 1 ∷ 1 ∷ 3 ∷ 1 ∷ 3 ∷ 0 ∷ [] }
+    -- Relation 0 has its index but is sent to site 1, so it is read.
+    ∷ record {
+      query = withIndex (1 ∷ []) (withMay (0 ∷ 1 ∷ 1 ∷ []) Q);
+      cost = 34;
+      trials = 3;
+      plan = 5 ∷ 1 ∷ 0 ∷ 2 ∷ 1 ∷ 1 ∷ 1 ∷ 3 ∷ 0 ∷ 2 ∷ 0 ∷ [];
+    }
+    -- Two pairs are joined: no operand of the last join is a single relation.
+    ∷ record { query = twoPairs; cost = 15; trials = 10; plan = 7 ∷ 1 ∷ 0 ∷ 1 ∷ 1 ∷ 3 ∷ 0 ∷ 1 ∷ 2 ∷ 1 ∷ 3 ∷ 3 ∷ 2 ∷ 3 ∷ 1 ∷ [] }
+    ∷ []
+
+abbrev pub sameBytes : List ℕ → List ℕ → Bool
+sameBytes [] [] = true
+sameBytes [] (y ∷ ys) = false
+sameBytes (x ∷ xs) [] = false
+sameBytes (x ∷ xs) (y ∷ ys) = eqb x y && sameBytes xs ys
+
+unfoldable pub answered : Vector → Bool
+answered v = same (cheapest _+_ (v .query)) (some (v .cost)) && (eqb (trials (v .query)) (v .trials) && sameBytes (written _+_ (v .query)) (v .plan))
+
+abbrev pub everyAnswered : List Vector → Bool
+everyAnswered [] = true
+everyAnswered (v ∷ vs) = answered v && everyAnswered vs

@@ -1,0 +1,169 @@
+//! The program `calls` held to the model, line by line. A list of calls on which they
+//! differ is made as short as it can be before it is printed.
+
+use std::fmt;
+use std::io;
+
+use crate::compare::program::{Answering, Feed};
+use crate::compare::tally::Tally;
+use crate::generate::calls;
+use crate::hex::hex;
+use crate::method::Method;
+use crate::pinned_calls;
+use crate::planner::Planner;
+use crate::random::Random;
+use crate::script::Call;
+
+pub const DEFAULT_SEED: u64 = 1;
+/// Scripts in a run, and calls in a script.
+pub const DEFAULT_COUNT: u64 = 200;
+const CALLS_IN_A_SCRIPT: usize = 400;
+/// Calls in the first script, which is megabytes long.
+const CALLS_IN_THE_FIRST: usize = 10_000;
+
+/// A list of calls on which the program and the model differ.
+#[derive(Clone, Debug)]
+pub struct Mismatch {
+    pub calls: Vec<Call>,
+    /// Bytes behind the last record, which end the run.
+    pub tail: Vec<u8>,
+    pub expected: Vec<String>,
+    pub found: Vec<String>,
+}
+
+impl fmt::Display for Mismatch {
+    fn fmt(&self, f: &mut fmt::Formatter) -> fmt::Result {
+        writeln!(f, "script {}", hex(&script(&self.calls, &self.tail)))?;
+        for call in &self.calls {
+            writeln!(f, "  {}", describe(call))?;
+        }
+        writeln!(f, "expected:\n{}", self.expected.join("\n"))?;
+        write!(f, "found:\n{}", self.found.join("\n"))
+    }
+}
+
+/// The fixed lists, then `count` random ones.
+pub fn compare(
+    program: &impl Answering,
+    seed: u64,
+    count: u64,
+) -> io::Result<Result<Tally, Box<Mismatch>>> {
+    let mut tally = Tally::default();
+    for calls in pinned_calls::lists() {
+        if let Err(mismatch) = compare_script(program, &calls, &[], Feed::Whole, &mut tally)? {
+            return Ok(Err(Box::new(shortest(program, *mismatch)?)));
+        }
+    }
+    for case in 0..count {
+        let mut random = Random::for_case(seed, case);
+        let length = if case == 0 { CALLS_IN_THE_FIRST } else { CALLS_IN_A_SCRIPT };
+        let calls = calls::calls(&mut random, length);
+        let tail = tail(&mut random);
+        let feed = if case % 8 == 0 { Feed::Pieces(997) } else { Feed::Whole };
+        if let Err(mismatch) = compare_script(program, &calls, &tail, feed, &mut tally)? {
+            return Ok(Err(Box::new(shortest(program, *mismatch)?)));
+        }
+    }
+    Ok(Ok(tally))
+}
+
+fn compare_script(
+    program: &impl Answering,
+    calls: &[Call],
+    tail: &[u8],
+    feed: Feed,
+    tally: &mut Tally,
+) -> io::Result<Result<(), Box<Mismatch>>> {
+    let printed = program.run(&script(calls, tail), feed)?;
+    let found: Vec<&str> = printed.lines().collect();
+    let mut planner = Planner::empty(Method::Document);
+    let mut line = 0;
+    let differ = |count: usize, tail: &[u8], expected: Vec<String>, found: &[&str]| {
+        let found = found.iter().map(|text| text.to_string()).collect();
+        let (calls, tail) = (calls[..count].to_vec(), tail.to_vec());
+        Ok(Err(Box::new(Mismatch { calls, tail, expected, found })))
+    };
+    for (number, call) in calls.iter().enumerate() {
+        let expected = call.run(&mut planner);
+        let end = (line + expected.len()).min(found.len());
+        if found[line..end] != expected[..] {
+            return differ(number + 1, &[], expected, &found[line..end]);
+        }
+        expected.iter().for_each(|text| tally.add(&kind(call, text)));
+        line = end;
+    }
+    if line < found.len() {
+        return differ(calls.len(), tail, Vec::new(), &found[line..]);
+    }
+    Ok(Ok(()))
+}
+
+/// What may stand behind the last record: nothing, a cut record, or an unknown one
+/// with good records behind it.
+fn tail(random: &mut Random) -> Vec<u8> {
+    let solve = Call::Solve { cells: 4_096 }.record();
+    match random.below(6) {
+        0 => vec![random.pick(&[1, 2, 3, 4, 5])],
+        1 => vec![1, 200, 0, 3, 3, 3],
+        2 => vec![2; 40],
+        3 => solve[..4].to_vec(),
+        4 => [vec![random.pick(&[0, 6, 255])], solve].concat(),
+        _ => Vec::new(),
+    }
+}
+
+/// Takes calls out, many at a time and then one by one, as long as a mismatch stays.
+fn shortest(program: &impl Answering, mut mismatch: Mismatch) -> io::Result<Mismatch> {
+    let mut chunk = mismatch.calls.len() / 2;
+    while chunk > 0 {
+        let mut from = 0;
+        while from < mismatch.calls.len() {
+            let mut fewer = mismatch.calls.clone();
+            fewer.drain(from..(from + chunk).min(fewer.len()));
+            let mut unused = Tally::default();
+            match compare_script(program, &fewer, &mismatch.tail, Feed::Whole, &mut unused)? {
+                Err(shorter) => mismatch = *shorter,
+                Ok(()) => from += chunk,
+            }
+        }
+        chunk /= 2;
+    }
+    Ok(mismatch)
+}
+
+fn script(calls: &[Call], tail: &[u8]) -> Vec<u8> {
+    let mut script: Vec<u8> = calls.iter().flat_map(|call| call.record()).collect();
+    script.extend(tail);
+    script
+}
+
+fn describe(call: &Call) -> String {
+    match call {
+        Call::Load { file } => format!("load of {} bytes {}", file.len(), hex(file)),
+        Call::Link(link) => format!(
+            "link {} to {}, open {}, fixed {}, rate {}",
+            link.sender, link.receiver, link.open, link.fixed, link.rate
+        ),
+        Call::Solve { cells } => format!("solve with {cells} cells"),
+        Call::Read { length } => format!("read into {length} bytes"),
+        Call::Check { plan } => format!("check {}", hex(plan)),
+    }
+}
+
+/// The call and its answer without the figures.
+fn kind(call: &Call, answer: &str) -> String {
+    let name = match call {
+        Call::Load { .. } => "load",
+        Call::Link(_) => "link",
+        Call::Solve { .. } => "solve",
+        Call::Read { .. } => "read",
+        Call::Check { .. } => "check",
+    };
+    let mut words = answer.split(' ');
+    match (words.next(), words.next()) {
+        (Some("refused"), Some(number)) => format!("{name}, refused {number}"),
+        (Some(word @ ("cells" | "output")), Some(state)) => format!("{name}, {word} {state}"),
+        (Some("no-route"), _) => format!("{name}, no route"),
+        _ => format!("{name}, answered"),
+    }
+}

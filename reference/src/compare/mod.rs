@@ -1,0 +1,11 @@
+//! Built programs and the C call held to the model, case by case. A run ends at the
+//! first mismatch, or says what it covered.
+
+pub mod apart;
+pub mod arguments;
+pub mod c_call;
+pub mod calls;
+pub mod cases;
+pub mod plan;
+pub mod program;
+pub mod tally;

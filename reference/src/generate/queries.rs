@@ -1,0 +1,172 @@
+//! Random valid queries: chains, stars and random trees, with amounts from all alike
+//! (many ties) to the limits.
+
+use std::ops::RangeInclusive;
+
+use crate::limits::{MOST_FIXED, MOST_RATE, MOST_RELATIONS, MOST_SITES, MOST_SIZE};
+use crate::query::{Line, Query, Relation, Site};
+use crate::random::Random;
+use crate::tree::{self, Join};
+use crate::units::{Bytes, Charge, Rate};
+
+/// How many relations and sites a query may have.
+#[derive(Clone, Debug)]
+pub struct Room {
+    pub relations: RangeInclusive<u64>,
+    pub sites: RangeInclusive<u64>,
+}
+
+impl Room {
+    /// All that document 01 allows.
+    pub fn full() -> Room {
+        Room { relations: 1..=MOST_RELATIONS as u64, sites: 1..=MOST_SITES as u64 }
+    }
+
+    /// What the exhaustive search does in milliseconds.
+    pub fn small() -> Room {
+        Room { relations: 1..=4, sites: 1..=3 }
+    }
+}
+
+#[derive(Clone, Copy, Debug, PartialEq, Eq)]
+pub enum Shape {
+    Chain,
+    Star,
+    Tree,
+}
+
+impl Shape {
+    pub const ALL: [Shape; 3] = [Shape::Chain, Shape::Star, Shape::Tree];
+}
+
+/// Whether all kinds of amounts in a query are such that many plans cost the same.
+#[derive(Clone, Copy, Debug, PartialEq, Eq)]
+enum Mood {
+    Ties,
+    Mixed,
+}
+
+/// Where the amounts of one kind lie in one query.
+#[derive(Clone, Copy, Debug)]
+enum Amounts {
+    Zero,
+    /// One value for all.
+    Alike(u64),
+    UpTo(u64),
+    /// All orders of magnitude up to the limit.
+    Spread,
+    /// The limit, one below it, or 0.
+    AtLimit,
+}
+
+impl Amounts {
+    fn choose(random: &mut Random, limit: u64, mood: Mood) -> Amounts {
+        if mood == Mood::Ties {
+            return random.pick(&[
+                Amounts::Zero,
+                Amounts::Alike(1),
+                Amounts::Alike(1),
+                Amounts::UpTo(1),
+            ]);
+        }
+        match random.below(10) {
+            0 => Amounts::Zero,
+            1 => Amounts::Alike(random.between(0, 3)),
+            2 => Amounts::Alike(random.spread(limit)),
+            3 => Amounts::UpTo(1),
+            4 | 5 => Amounts::UpTo(3),
+            6 => Amounts::UpTo(20.min(limit)),
+            7 => Amounts::UpTo(100.min(limit)),
+            8 => Amounts::Spread,
+            _ => Amounts::AtLimit,
+        }
+    }
+
+    fn draw(self, random: &mut Random, limit: u64) -> u64 {
+        match self {
+            Amounts::Zero => 0,
+            Amounts::Alike(value) => value,
+            Amounts::UpTo(most) => random.between(0, most),
+            Amounts::Spread => random.spread(limit),
+            Amounts::AtLimit => random.pick(&[limit, limit, limit - 1, 0]),
+        }
+    }
+}
+
+pub fn query(random: &mut Random, room: &Room) -> Query {
+    let n = random.between(*room.relations.start(), *room.relations.end()) as usize;
+    let s = random.between(*room.sites.start(), *room.sites.end()) as usize;
+    let shape = random.pick(&Shape::ALL);
+    let joins = joins(random, shape, n);
+    let subqueries = tree::subqueries(&joins, n).len();
+    let mood = if random.percent(30) { Mood::Ties } else { Mood::Mixed };
+    let sites = sites(random, s, mood);
+    let relations = relations(random, n, s);
+    let sizes = sizes(random, subqueries, mood);
+    let lines = lines(random, s, mood);
+    Query::new(sites, relations, joins, sizes, lines, random.below(s))
+}
+
+/// Joins of a shape, relations and joins numbered and turned at random half the time.
+pub fn joins(random: &mut Random, shape: Shape, n: usize) -> Vec<Join> {
+    let mut names: Vec<usize> = (0..n).collect();
+    let shuffled = random.percent(50);
+    if shuffled {
+        random.shuffle(&mut names);
+    }
+    let mut joins: Vec<Join> = (1..n)
+        .map(|second| {
+            let first = match shape {
+                Shape::Chain => second - 1,
+                Shape::Star => 0,
+                Shape::Tree => random.below(second),
+            };
+            let (first, second) = (names[first], names[second]);
+            if shuffled && random.percent(50) {
+                Join { first: second, second: first }
+            } else {
+                Join { first, second }
+            }
+        })
+        .collect();
+    if shuffled {
+        random.shuffle(&mut joins);
+    }
+    joins
+}
+
+fn sites(random: &mut Random, count: usize, mood: Mood) -> Vec<Site> {
+    let may_join = random.pick(&[100, 100, 75, 40]);
+    let fixed = Amounts::choose(random, MOST_FIXED, mood);
+    let rate = Amounts::choose(random, MOST_RATE, mood);
+    let site = |_| Site {
+        may_join: random.percent(may_join),
+        fixed: Charge(fixed.draw(random, MOST_FIXED)),
+        rate: Rate(rate.draw(random, MOST_RATE)),
+    };
+    (0..count).map(site).collect()
+}
+
+fn relations(random: &mut Random, count: usize, sites: usize) -> Vec<Relation> {
+    let index = random.pick(&[0, 30, 70, 100]);
+    let used = random.between(1, sites as u64) as usize;
+    let relation = |_| Relation { home: random.below(used), index: random.percent(index) };
+    (0..count).map(relation).collect()
+}
+
+fn sizes(random: &mut Random, count: usize, mood: Mood) -> Vec<Bytes> {
+    let amounts = Amounts::choose(random, MOST_SIZE, mood);
+    (0..count).map(|_| Bytes(amounts.draw(random, MOST_SIZE))).collect()
+}
+
+fn lines(random: &mut Random, sites: usize, mood: Mood) -> Vec<Line> {
+    let open = random.pick(&[100, 100, 75, 50, 25]);
+    let fixed = Amounts::choose(random, MOST_FIXED, mood);
+    let rate = Amounts::choose(random, MOST_RATE, mood);
+    let line = |_| Line {
+        open: random.percent(open),
+        fixed: Charge(fixed.draw(random, MOST_FIXED)),
+        rate: Rate(rate.draw(random, MOST_RATE)),
+    };
+    (0..sites * (sites - 1)).map(line).collect()
+}

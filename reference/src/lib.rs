@@ -1,0 +1,35 @@
+//! The outside tests of Fanchuki, written from document 01 alone.
+//!
+//! Read in this order: `query` and `prices` (what is planned), `rules` (the plan
+//! rules), `exhaustive` (the cheapest allowed plan by searching those rules),
+//! `tables` (the two tables), `planner` (the calls). `generate` makes queries,
+//! files, plans and call lists; `compare` holds built programs to the model.
+
+pub mod c_call;
+pub mod check;
+pub mod compare;
+pub mod decode;
+pub mod encode;
+pub mod exhaustive;
+pub mod generate;
+pub mod hex;
+pub mod limits;
+pub mod listing;
+pub mod method;
+pub mod older;
+pub mod pinned;
+pub mod pinned_calls;
+pub mod planner;
+pub mod prices;
+pub mod query;
+pub mod random;
+pub mod refusal;
+pub mod rules;
+pub mod script;
+pub mod sets;
+pub mod solve;
+pub mod step;
+pub mod tables;
+pub mod text;
+pub mod tree;
+pub mod units;

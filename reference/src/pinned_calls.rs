@@ -1,0 +1,252 @@
+//! Fixed lists of calls for the places of document 01 that are easily misread: state
+//! before input, what a refusal leaves standing, wide arguments, every refusal of check
+//! with its place.
+
+use crate::encode::encode;
+use crate::limits::{MOST_FIXED, MOST_RATE, MOST_SIZE};
+use crate::pinned;
+use crate::planner::Link;
+use crate::query::{Line, Query, Relation, Site};
+use crate::script::Call;
+use crate::step::{self, Step};
+use crate::units::{Bytes, Charge, Rate};
+
+pub fn lists() -> Vec<Vec<Call>> {
+    vec![
+        nothing_loaded(),
+        refusals_keep_the_plan(),
+        links(),
+        no_route(),
+        checks(),
+        alone(),
+        dearest(),
+    ]
+}
+
+const SOLVE: Call = Call::Solve { cells: 4_096 };
+
+fn load(query: &Query) -> Call {
+    Call::Load { file: encode(query) }
+}
+
+fn link(sender: u64, receiver: u64, open: u64, fixed: u64, rate: u64) -> Call {
+    Call::Link(Link { sender, receiver, open, fixed, rate })
+}
+
+fn read(length: u32) -> Call {
+    Call::Read { length }
+}
+
+fn check(plan: &[u8]) -> Call {
+    Call::Check { plan: plan.to_vec() }
+}
+
+/// Every call before a load, with arguments that are wrong in other ways too.
+fn nothing_loaded() -> Vec<Call> {
+    vec![
+        SOLVE,
+        Call::Solve { cells: 0 },
+        read(0),
+        read(100),
+        check(&[]),
+        check(&[1, 1, 0]),
+        link(0, 0, 2, u64::MAX, u64::MAX),
+        Call::Load { file: Vec::new() },
+        SOLVE,
+    ]
+}
+
+/// A refused call keeps query and plan; a link that changes nothing drops the plan.
+fn refusals_keep_the_plan() -> Vec<Call> {
+    let q = pinned::q();
+    let file = encode(&q);
+    vec![
+        load(&q),
+        read(9),
+        Call::Solve { cells: 4_095 },
+        Call::Solve { cells: 4_097 },
+        read(9),
+        read(8),
+        read(0),
+        read(10),
+        Call::Load { file: file[..106].to_vec() },
+        Call::Load { file: [file.clone(), vec![0]].concat() },
+        Call::Solve { cells: 0 },
+        link(1, 1, 1, 1, 1),
+        link(0, 1, 2, 1, 1),
+        read(9),
+        link(0, 1, 1, 1, 1),
+        read(9),
+        read(0),
+        Call::Solve { cells: 8_192 },
+        read(4_096),
+        load(&q),
+        read(9),
+    ]
+}
+
+/// Wide arguments are not cut; 6 comes before 3; a closed line's amounts are judged.
+fn links() -> Vec<Call> {
+    let wide = 1 << 32;
+    let mut calls = vec![load(&pinned::q())];
+    for (sender, receiver) in
+        [(0, 0), (0, 3), (3, 0), (wide, 1), (1, wide), (256, 1), (u64::MAX, 0), (0, u64::MAX)]
+    {
+        calls.push(link(sender, receiver, 1, 0, 0));
+        calls.push(link(sender, receiver, 2, u64::MAX, 1_001));
+    }
+    for (open, fixed, rate) in [
+        (2, 0, 0),
+        (wide, 0, 0),
+        (wide + 1, 0, 0),
+        (u64::MAX, 0, 0),
+        (1, MOST_FIXED + 1, 0),
+        (0, MOST_FIXED + 1, 0),
+        (1, wide, 0),
+        (1, 0, MOST_RATE + 1),
+        (0, 0, MOST_RATE + 1),
+        (1, 0, wide),
+        (1, u64::MAX, u64::MAX),
+    ] {
+        calls.push(link(1, 0, open, fixed, rate));
+    }
+    // Each direction is its own line.
+    calls.extend([
+        SOLVE,
+        link(0, 1, 1, 0, 0),
+        SOLVE,
+        read(69),
+        link(1, 0, 1, MOST_FIXED, MOST_RATE),
+    ]);
+    calls.extend([
+        SOLVE,
+        read(69),
+        link(1, 0, 0, 0, 0),
+        SOLVE,
+        read(69),
+        link(1, 0, 1, 0, 0),
+        SOLVE,
+    ]);
+    calls
+}
+
+/// No route keeps no plan; opening a line brings one back.
+fn no_route() -> Vec<Call> {
+    vec![
+        load(&pinned::q()),
+        SOLVE,
+        link(1, 0, 0, 1, 1),
+        SOLVE,
+        read(69),
+        link(2, 0, 0, 1, 1),
+        Call::Solve { cells: 8_192 },
+        read(0),
+        read(69),
+        check(&[4, 1, 0, 1, 1, 2, 0, 3, 0]),
+        link(2, 0, 1, 1, 1),
+        SOLVE,
+        read(69),
+    ]
+}
+
+/// Every refusal of check on Q, and plans that are allowed without being cheapest.
+fn checks() -> Vec<Call> {
+    let plans: [&[u8]; 33] = [
+        &[4, 1, 0, 1, 1, 2, 0, 3, 0],
+        &[4, 1, 1, 2, 0, 1, 0, 3, 0],
+        &[5, 1, 0, 2, 1, 1, 1, 3, 0, 2, 0],
+        &[6, 1, 0, 2, 2, 1, 1, 2, 2, 3, 0, 2, 0],
+        // 7: empty, count 0, cut, longer, more than 34 steps
+        &[],
+        &[0],
+        &[1],
+        &[1, 1],
+        &[1, 1, 0, 1],
+        &[2, 1, 0],
+        &[255, 1, 0],
+        &[35; 71],
+        // 8: kinds, arguments, and before any other fault of the step
+        &[1, 0, 0],
+        &[1, 4, 0],
+        &[1, 255, 255],
+        &[1, 1, 2],
+        &[2, 1, 0, 1, 255],
+        &[1, 2, 3],
+        &[1, 3, 1],
+        &[3, 1, 0, 1, 1, 3, 1],
+        // 9
+        &[2, 1, 0, 1, 0],
+        &[5, 1, 0, 1, 1, 2, 0, 3, 0, 1, 1],
+        // 10: nothing held, to the same site, after a send
+        &[1, 2, 0],
+        &[2, 1, 0, 2, 0],
+        &[3, 1, 0, 2, 1, 2, 2],
+        // 11: fewer than two held, two sites
+        &[1, 3, 0],
+        &[2, 1, 0, 3, 0],
+        &[3, 1, 0, 1, 1, 3, 0],
+        // 12: two results, one relation only, another site
+        &[2, 1, 0, 1, 1],
+        &[1, 1, 0],
+        &[5, 1, 0, 1, 1, 2, 0, 3, 0, 2, 2],
+        &[4, 1, 1, 1, 0, 2, 1, 3, 0],
+        // 11 before 12, at its own step
+        &[3, 1, 1, 1, 0, 3, 0],
+    ];
+    let mut calls = vec![load(&pinned::q())];
+    calls.extend(plans.map(check));
+    // The same with a closed line and with a site that may not join.
+    calls.push(link(1, 0, 0, 1, 1));
+    calls.extend(plans.map(check));
+    let mut no_join_at_0 = pinned::q();
+    no_join_at_0.sites[0].may_join = false;
+    calls.push(load(&no_join_at_0));
+    calls.extend(plans.map(check));
+    calls
+}
+
+/// One relation at one site: no joins, no lines, no sends, trials 0.
+fn alone() -> Vec<Call> {
+    let query = pinned::alone();
+    vec![
+        load(&query),
+        SOLVE,
+        read(3),
+        read(2),
+        check(&[1, 1, 0]),
+        check(&[1, 3, 0]),
+        check(&[2, 1, 0, 2, 0]),
+        check(&[2, 1, 0, 2, 1]),
+        link(0, 0, 1, 0, 0),
+        link(0, 1, 1, 0, 0),
+        read(3),
+    ]
+}
+
+/// A chain of nine with every amount at its limit, and a plan of 34 steps that costs
+/// all that a plan can: 41,000,025,000,000.
+pub fn dearest_plan() -> (Query, Vec<Step>) {
+    let site = Site { may_join: true, fixed: Charge(MOST_FIXED), rate: Rate(MOST_RATE) };
+    let line = Line { open: true, fixed: Charge(MOST_FIXED), rate: Rate(MOST_RATE) };
+    let relations = vec![Relation { home: 0, index: false }; 9];
+    let sizes = vec![Bytes(MOST_SIZE); 45];
+    let query = Query::new(vec![site; 3], relations, pinned::chain(9), sizes, vec![line; 6], 0);
+
+    let load_and_send = |relation, to| [Step::Load { relation }, Step::Send { to }];
+    let mut steps = load_and_send(0, 1).to_vec();
+    let mut at = 1;
+    for join in 0..8 {
+        steps.extend(load_and_send(join + 1, at));
+        let next = if join == 7 { 0 } else { 3 - at };
+        steps.extend([Step::Join { join }, Step::Send { to: next }]);
+        at = next;
+    }
+    (query, steps)
+}
+
+fn dearest() -> Vec<Call> {
+    let (query, steps) = dearest_plan();
+    let plan = step::plan_bytes(&steps);
+    let one_more = step::plan_bytes(&[&steps[..], &[Step::Send { to: 1 }]].concat());
+    vec![load(&query), check(&plan), check(&plan[..68]), check(&one_more), SOLVE, read(69)]
+}
