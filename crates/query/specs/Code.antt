@@ -16,6 +16,7 @@ use Rattle.query.specs.declared.decoding.Decoded.{Decoded}
 use Rattle.query.specs.Fields.{Read, refused, value}
 use Rattle.query.specs.Decode.{Terms, Two, noSites, noRelations, noJoins, noLines}
 
+-- The answer of a field's reader, and the number of its refusal.
 abbrev pub fieldOf : Read ℕ → Field
 fieldOf (refused k) = field.Refused k
 fieldOf (value v l) = field.Value v
@@ -24,6 +25,7 @@ abbrev pub faultOf : Field → ℕ
 faultOf (field.Value v) = 0
 faultOf (field.Refused k) = k
 
+-- The same of the reader of terms.
 abbrev pub termsOf : Read Terms → TermsRead
 termsOf (refused k) = terms.Refused k
 termsOf (value t l) = terms.Terms (t .flag) (t .fixed) (t .rate)
@@ -32,6 +34,7 @@ abbrev pub termsFault : TermsRead → ℕ
 termsFault (terms.Terms f x r) = 0
 termsFault (terms.Refused k) = k
 
+-- The same of the reader of two bytes.
 abbrev pub twoOf : Read Two → TwoRead
 twoOf (refused k) = two.Refused k
 twoOf (value t l) = two.Two (t .one) (t .other)
@@ -45,6 +48,7 @@ abbrev pub readOf : {A : Type 0} → Outcome → A → ℕ → List ℕ → Read
 readOf outcome.Whole a used l = value a (drop used l)
 readOf (outcome.Refused k) a used l = refused k
 
+-- The number of a section's refusal.
 abbrev pub outcomeFault : Outcome → ℕ
 outcomeFault outcome.Whole = 0
 outcomeFault (outcome.Refused k) = k

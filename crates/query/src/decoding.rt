@@ -87,7 +87,7 @@ pub fn decode(file: &[u8]) -> Decoded
     };
     let joins = c.joins;
     let part = part_from(part, c.used);
-    if reaches(joins) {} else {
+    if !reaches(joins) {
         return refused(4);
     }
     let due = count_subqueries(joins);

@@ -12,7 +12,7 @@ pub enum Field {
 }
 
 // The number of a field's refusal.
-pub fn fault(f: Field) -> u64
+pub(crate) fn fault(f: Field) -> u64
     ensures { λ r. ⌜ r ≡ faultOf f ⌝ }
 {
     match f {
@@ -22,7 +22,7 @@ pub fn fault(f: Field) -> u64
 }
 
 // The file from a place on, and nothing past its end.
-pub fn part_from(file: &[u8], at: usize) -> &[u8]
+pub(crate) fn part_from(file: &[u8], at: usize) -> &[u8]
     ensures { λ r. ⌜ now r ≡ drop at (now (file .entry)) ⌝ }
 {
     if at <= file.len() {
@@ -53,7 +53,7 @@ fn number(part: &[u8], width: usize) -> u64
 }
 
 // A field of some bytes: whole before it is judged, then from low to high, or refused with the fault.
-pub fn read_field(part: &[u8], width: usize, fault: u64, low: u64, high: u64) -> Field
+pub(crate) fn read_field(part: &[u8], width: usize, fault: u64, low: u64, high: u64) -> Field
     requires { ⌜ width ≤ 4 ⌝ }
     ensures { λ r. ⌜ r ≡ fieldOf (field width fault low high (now (part .entry))) ⌝ }
 {
@@ -71,14 +71,14 @@ pub fn read_field(part: &[u8], width: usize, fault: u64, low: u64, high: u64) ->
 }
 
 // A count from low to high.
-pub fn count_field(part: &[u8], low: u64, high: u64) -> Field
+pub(crate) fn count_field(part: &[u8], low: u64, high: u64) -> Field
     ensures { λ r. ⌜ r ≡ fieldOf (countField low high (now (part .entry))) ⌝ }
 {
     read_field(part, 1, 2, low, high)
 }
 
 // A byte below a limit.
-pub fn byte_below(part: &[u8], limit: usize) -> Field
+pub(crate) fn byte_below(part: &[u8], limit: usize) -> Field
     requires { ⌜ 1 ≤ limit ⌝ }
     ensures { λ r. ⌜ r ≡ fieldOf (byteBelow limit (now (part .entry))) ⌝ }
 {
@@ -87,7 +87,7 @@ pub fn byte_below(part: &[u8], limit: usize) -> Field
 }
 
 // An amount up to a limit.
-pub fn amount_up_to(part: &[u8], limit: u64) -> Field
+pub(crate) fn amount_up_to(part: &[u8], limit: u64) -> Field
     ensures { λ r. ⌜ r ≡ fieldOf (amountUpTo limit (now (part .entry))) ⌝ }
 {
     read_field(part, 4, 3, 0, limit)

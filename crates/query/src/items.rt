@@ -27,7 +27,7 @@ pub enum TwoRead {
 }
 
 // The terms of a site or a line, in nine bytes.
-pub fn read_terms(part: &[u8]) -> TermsRead
+pub(crate) fn read_terms(part: &[u8]) -> TermsRead
     ensures { λ r. ⌜ r ≡ termsOf (terms (now (part .entry))) ⌝ }
 {
     let a = byte_below(part, 2);
@@ -46,7 +46,7 @@ pub fn read_terms(part: &[u8]) -> TermsRead
 }
 
 // Two bytes, the first below a and the second below b.
-pub fn read_two(part: &[u8], a: usize, b: usize) -> TwoRead
+pub(crate) fn read_two(part: &[u8], a: usize, b: usize) -> TwoRead
     requires { ⌜ (1 ≤ a) × (1 ≤ b) ⌝ }
     ensures { λ r. ⌜ r ≡ twoOf (two a b (now (part .entry))) ⌝ }
 {
@@ -62,7 +62,7 @@ pub fn read_two(part: &[u8], a: usize, b: usize) -> TwoRead
 }
 
 // The number of a refusal of terms.
-pub fn terms_fault(t: TermsRead) -> u64
+pub(crate) fn terms_fault(t: TermsRead) -> u64
     ensures { λ r. ⌜ r ≡ termsFault t ⌝ }
 {
     match t {
@@ -76,7 +76,7 @@ pub fn terms_fault(t: TermsRead) -> u64
 }
 
 // The number of a refusal of two bytes.
-pub fn two_fault(t: TwoRead) -> u64
+pub(crate) fn two_fault(t: TwoRead) -> u64
     ensures { λ r. ⌜ r ≡ twoFault t ⌝ }
 {
     match t {

@@ -19,7 +19,7 @@ pub struct LinesRead {
     pub lines: Lines,
 }
 
-pub fn no_lines() -> Lines
+pub(crate) fn no_lines() -> Lines
     ensures { λ r. ⌜ r ≡ noLines ⌝ }
 {
     Lines {
@@ -64,7 +64,7 @@ fn read_sender(part: &[u8], s: usize, a: usize, kept: Lines) -> LinesRead
 }
 
 // Lines of s sites, by sender.
-pub fn read_lines(part: &[u8], s: usize) -> LinesRead
+pub(crate) fn read_lines(part: &[u8], s: usize) -> LinesRead
     requires { ⌜ (1 ≤ s) × (s ≤ 8) ⌝ }
     ensures { λ r. ⌜ readOf (r .outcome) (r .lines) (r .used) (now (part .entry)) ≡ linesSection s (now (part .entry)) ⌝ }
 {

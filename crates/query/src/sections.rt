@@ -49,7 +49,7 @@ pub struct DeliveryRead {
     pub target: usize,
 }
 
-pub fn no_sites(count: usize) -> Sites
+pub(crate) fn no_sites(count: usize) -> Sites
     ensures { λ r. ⌜ r ≡ noSites count ⌝ }
 {
     Sites {
@@ -60,7 +60,7 @@ pub fn no_sites(count: usize) -> Sites
     }
 }
 
-pub fn no_relations(count: usize) -> Relations
+pub(crate) fn no_relations(count: usize) -> Relations
     ensures { λ r. ⌜ r ≡ noRelations count ⌝ }
 {
     Relations {
@@ -70,7 +70,7 @@ pub fn no_relations(count: usize) -> Relations
     }
 }
 
-pub fn no_joins(count: usize) -> Joins
+pub(crate) fn no_joins(count: usize) -> Joins
     ensures { λ r. ⌜ r ≡ noJoins count ⌝ }
 {
     Joins {
@@ -81,7 +81,7 @@ pub fn no_joins(count: usize) -> Joins
 }
 
 // Sites: may-join flag, join fixed amount, join rate.
-pub fn read_sites(part: &[u8]) -> SitesRead
+pub(crate) fn read_sites(part: &[u8]) -> SitesRead
     ensures { λ r. ⌜ readOf (r .outcome) (r .sites) (r .used) (now (part .entry)) ≡ sitesSection (now (part .entry)) ⌝ }
 {
     let c = count_field(part, 1, 8);
@@ -117,7 +117,7 @@ pub fn read_sites(part: &[u8]) -> SitesRead
 }
 
 // Relations: home site, index flag.
-pub fn read_relations(part: &[u8], s: usize) -> RelationsRead
+pub(crate) fn read_relations(part: &[u8], s: usize) -> RelationsRead
     requires { ⌜ 1 ≤ s ⌝ }
     ensures { λ r. ⌜ readOf (r .outcome) (r .relations) (r .used) (now (part .entry)) ≡ relationsSection s (now (part .entry)) ⌝ }
 {
@@ -153,7 +153,7 @@ pub fn read_relations(part: &[u8], s: usize) -> RelationsRead
 }
 
 // Joins of n relations: first relation, second relation.
-pub fn read_joins(part: &[u8], n: usize) -> JoinsRead
+pub(crate) fn read_joins(part: &[u8], n: usize) -> JoinsRead
     requires { ⌜ (1 ≤ n) × (n ≤ 9) ⌝ }
     ensures { λ r. ⌜ readOf (r .outcome) (r .joins) (r .used) (now (part .entry)) ≡ joinsSection n (now (part .entry)) ⌝ }
 {
@@ -190,7 +190,7 @@ pub fn read_joins(part: &[u8], n: usize) -> JoinsRead
 }
 
 // Delivery: the query site.
-pub fn read_delivery(part: &[u8], s: usize) -> DeliveryRead
+pub(crate) fn read_delivery(part: &[u8], s: usize) -> DeliveryRead
     requires { ⌜ 1 ≤ s ⌝ }
     ensures { λ r. ⌜ readOf (r .outcome) (r .target) (r .used) (now (part .entry)) ≡ deliverySection s (now (part .entry)) ⌝ }
 {

@@ -24,7 +24,7 @@ pub struct SizesRead {
 }
 
 // The sizes of the subqueries of a tree, which are due in number.
-pub fn read_sizes(part: &[u8], joins: Joins, due: usize) -> SizesRead
+pub(crate) fn read_sizes(part: &[u8], joins: Joins, due: usize) -> SizesRead
     requires { ⌜ (joins .count ≤ 8) × Tree joins (joins .count + 1) ⌝ }
     requires { ⌜ due ≡ subqueries joins (joins .count + 1) ⌝ }
     ensures { λ r. ⌜ readOf (r .outcome) (r .sizes) (r .used) (now (part .entry)) ≡ sizesSection joins (joins .count + 1) (now (part .entry)) ⌝ }

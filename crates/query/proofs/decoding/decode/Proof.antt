@@ -5,6 +5,7 @@ use mathlib.Core.Path.{_≡_}
 use mathlib.Core.List.{List}
 use denote.Ref.{now}
 use borrow.Author.Needs.{needs}
+use borrow.Author.Tests.{not-true, not-false}
 use Rattle.relations.specs.declared.Joins.{Joins}
 use Rattle.query.specs.declared.Sites.{Sites}
 use Rattle.query.specs.declared.Relations.{Relations}
@@ -32,7 +33,7 @@ back-4 c = c .before .before .before .before .before
 abbrev back-5 : tie.After-part-from6 → tie.After-part-from5
 back-5 c = c .before .before .before .before
 
-abbrev tested : tie.After-part-from4 → tie.Then1
+abbrev tested : tie.After-part-from4 → tie.Else1
 tested c = c .before .before .before .before .before .before
 
 -- The file, what each section holds, and what is left of the file after it.
@@ -99,10 +100,10 @@ past-3 : (c : tie.After-part-from3) → decode (file (back-1 (back-2 c))) ≡ af
 past-3 c = goes-on _ _ _ (c .before .before .before .before .read-joins .result .outcome) (c .before .before .before .before .read-joins .result .joins) (c .before .before .before .before .read-joins .result .used) _ (past-2 (back-2 c)) (c .before .before .before .before .read-joins .ensures) _ (c .before .before .enum-told5 .given .1) (c .part-from3 .ensures)
 
 past-test :
-    (c : tie.Then1) → decode (file (back-1 (back-2 (c .before .before)))) ≡
+    (c : tie.Else1) → decode (file (back-1 (back-2 (c .before .before)))) ≡
     andThen (sizesSection (joins (c .before .before)) (joins (c .before .before) .count + 1) (left-3 (c .before .before)))
     (afterSizes (sites (back-1 (back-2 (c .before .before)))) (relations (back-2 (c .before .before))) (joins (c .before .before)))
-past-test c = reached _ _ _ _ _ _ (past-3 (c .before .before)) (joins-count (c .before .before)) (c .before .reaches .ensures) (c .if1 .taken)
+past-test c = reached _ _ _ _ _ _ (past-3 (c .before .before)) (joins-count (c .before .before)) (c .before .reaches .ensures) (not-false _ (c .if1 .left))
 
 past-4 : (c : tie.After-part-from4) → decode (file (back-1 (back-2 (back-3 c)))) ≡ afterSizes (sites (back-1 (back-2 (back-3 c)))) (relations (back-2 (back-3 c))) (joins (back-3 c)) (sizes c) (left-4 c)
 past-4 c = goes-on _ _ _ (c .before .before .before .before .read-sizes .result .outcome) (c .before .before .before .before .read-sizes .result .sizes) (c .before .before .before .before .read-sizes .result .used) _ (past-test (tested c)) (c .before .before .before .before .read-sizes .ensures) _ (c .before .before .enum-told7 .given .1) (c .part-from4 .ensures)
@@ -140,9 +141,9 @@ decode-spec =
     (λ c κs. search needs)
     (λ c κs. kept-drawn _ (joins c) (joins-fine c) (relations-fine (back-2 c)))
     (λ c κs. search needs)
-    (λ c. not-reached _ _ _ _ _ _ (past-3 (c .before .before .before)) (joins-count (c .before .before .before)) (c .before .before .reaches .ensures) _ (c .before .if1 .left) (c .refused4 .ensures))
-    (λ c κs. kept-tree _ (joins (c .before .before)) (joins-fine (c .before .before)) (relations-fine (back-2 (c .before .before))) _ (c .before .reaches .ensures) (c .if1 .taken))
-    (λ c κs. (kept-tree _ (joins (c .before .before .before)) (joins-fine (c .before .before .before)) (relations-fine (back-2 (c .before .before .before))) _ (c .before .before .reaches .ensures) (c .before .if1 .taken), c .count-subqueries .ensures))
+    (λ c. not-reached _ _ _ _ _ _ (past-3 (c .before .before .before)) (joins-count (c .before .before .before)) (c .before .before .reaches .ensures) _ (not-true _ (c .before .if1 .taken)) (c .refused4 .ensures))
+    (λ c κs. kept-tree _ (joins (c .before .before)) (joins-fine (c .before .before)) (relations-fine (back-2 (c .before .before))) _ (c .before .reaches .ensures) (not-false _ (c .if1 .left)))
+    (λ c κs. (kept-tree _ (joins (c .before .before .before)) (joins-fine (c .before .before .before)) (relations-fine (back-2 (c .before .before .before))) _ (c .before .before .reaches .ensures) (not-false _ (c .before .if1 .left)), c .count-subqueries .ensures))
     (λ c. search needs)
     (λ c. search needs)
     (λ c κs. search needs)
