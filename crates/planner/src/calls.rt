@@ -1,20 +1,28 @@
 // The calls. The state goes in by value and comes back by value; a refusal hands back what came in.
 use crate::AfterLink;
 use crate::AfterLoad;
+use crate::AfterSolve;
 use crate::CheckAnswer;
 use crate::LinkAnswer;
 use crate::LoadAnswer;
 use crate::Planner;
 use crate::ReadAnswer;
+use crate::SolveAnswer;
 use query::Charge;
 use query::Outcome;
 use query::Query;
 use rules::Checked;
+use tables::Solved;
 ghost use Prim.Native.Nat.{_<_};
 ghost use mathlib.Core.Path.{_≡_};
+ghost use mathlib.Core.Bool.{false};
+ghost use lib.ListN.{length, drop};
 ghost use Rattle.planner.specs.State.{nothing};
-ghost use Rattle.planner.specs.Calls.{load, link, linkOf, sitesListed, termsInRange, relined, readingOf, read, check};
-ghost use Rattle.planner.specs.Contracts.{stateOf, doneOf, ofLoad, ofLink, ofRead, ofCheck, Sound};
+ghost use Rattle.planner.specs.Calls.{load, link, linkOf, sitesListed, termsInRange, relined, solve, solveAdmitted, readingOf, read, check};
+ghost use Rattle.planner.specs.Contracts.{stateOf, doneOf, ofLoad, ofLink, ofSolve, ofRead, ofCheck, Sound};
+
+// The cells that solve needs.
+const CELLS: usize = 4096;
 
 // The empty planner: no query stands and no plan is kept.
 pub fn empty() -> Planner
@@ -119,6 +127,55 @@ pub fn link(p: Planner, sender: u64, receiver: u64, opened: u64, fixed: u64, rat
             query: relined(q, sender, receiver, opened, fixed, rate),
             kept: false,
             ..p
+        },
+    }
+}
+
+// Solve: keeps the cheapest plan and answers its cost and trials, or answers no route with trials and keeps none.
+// Of the cells only those from 4,096 on are said to stay; a refusal leaves them all.
+pub fn solve(p: Planner, cells: &mut [u64]) -> AfterSolve
+    requires { ⌜ Sound p ⌝ }
+    ensures done { λ r. ⌜ doneOf (ofSolve (r .answer)) (r .planner) ≡ solve (length (now (cells .entry))) (stateOf p) ⌝ }
+    ensures sound { λ r. ⌜ Sound (r .planner) ⌝ }
+    ensures later { λ _. ⌜ drop 4096 (now (cells .exit)) ≡ drop 4096 (now (cells .entry)) ⌝ }
+    ensures refused { λ _. ⌜ (solveAdmitted (stateOf p .query) (length (now (cells .entry))) ≡ false → now (cells .exit) ≡ now (cells .entry)) ⌝ }
+{
+    if p.loaded {
+    } else {
+        return AfterSolve {
+            answer: SolveAnswer::Refused(20),
+            planner: p,
+        };
+    }
+    if cells.len() < CELLS {
+        return AfterSolve {
+            answer: SolveAnswer::Refused(21),
+            planner: p,
+        };
+    }
+    let mut plan = [0u8; 69];
+    let s = tables::solve(p.query, cells, &mut plan);
+    match s {
+        Solved::Found {
+            cost,
+            length,
+            trials,
+        } => AfterSolve {
+            answer: SolveAnswer::Found { cost, trials },
+            planner: Planner {
+                kept: true,
+                cost,
+                length,
+                plan,
+                ..p
+            },
+        },
+        Solved::NoRoute { trials } => AfterSolve {
+            answer: SolveAnswer::NoRoute { trials },
+            planner: Planner {
+                kept: false,
+                ..p
+            },
         },
     }
 }

@@ -6,6 +6,7 @@ pub use calls::empty;
 pub use calls::link;
 pub use calls::load;
 pub use calls::read;
+pub use calls::solve;
 use query::Charge;
 use query::Query;
 

@@ -1,0 +1,91 @@
+-- One law for each way through solve: what the tests and the solver's answer make of the call's definition.
+use Prim.Native.Nat.{ℕ, _+_, _≤_, _<_}
+use native.Mathlib.Omega.{arith}
+use mathlib.Core.Path.{_≡_, refl, sym, _∙_}
+use mathlib.Core.Bool.{Bool, true, false}
+use mathlib.Core.List.{List, _++_}
+use lib.ListN.{length, drop}
+use lib.Seq.{take-append-seam}
+use borrow.Author.Tests.{lt-ltb, le-ltb, le-leb}
+use Rattle.query.specs.declared.Query.{Query}
+use Rattle.query.specs.declared.Charge.{Charge}
+use Rattle.query.specs.Cost.{Cost, none, some}
+use Rattle.tables.specs.declared.solving.Solved.{Solved}
+use Rattle.tables.specs.declared.solving.Solved.the-variants.{Found, NoRoute}
+use Rattle.tables.specs.Tables.{cheapest, trials}
+use Rattle.tables.specs.Plan.{written, writtenSteps}
+use Rattle.tables.specs.Solved.{solvedAs, planAfter}
+use Rattle.tables.proofs.Stores.{step-bytes-long}
+use Rattle.tables.proofs.Upper.{written-law}
+use Rattle.tables.proofs.Optimum.{plus-combines}
+use Rattle.planner.specs.declared.Planner.{Planner}
+use Rattle.planner.specs.Calls.{found, noRoute, refused, solve, solveAdmitted}
+use Rattle.planner.specs.Contracts.{stateOf, doneOf, Sound}
+
+pub solve-nothing : (p : Planner) (n : ℕ) → p .loaded ≡ false → doneOf (refused 20 0) p ≡ solve n (stateOf p)
+unfolding solve
+solve-nothing p n e = rw e
+
+pub solve-few : (p : Planner) (n : ℕ) → p .loaded ≡ true → n < 4096 → doneOf (refused 21 0) p ≡ solve n (stateOf p)
+unfolding solve
+solve-few p n e h = rw (e, lt-ltb n 4096 h)
+
+-- Where solve is admitted nothing is said of a refusal.
+pub not-refused : (p : Planner) (n : ℕ) {A : Type 0} → p .loaded ≡ true → 4096 ≤ n → solveAdmitted (stateOf p .query) n ≡ false → A
+not-refused p n e h f = absurd (let g : true ≡ false = rw (e, le-leb 4096 n h) at f in let z : _≡_ {A = ℕ} 0 1 = cc in omega arith)
+
+-- The solver's answer by what the query costs.
+module _ (q : Query) (c : Charge) (l t : ℕ) where
+  is-found : (x : Cost) → solvedAs q x ≡ Found c l t → x ≡ some (c .0)
+  is-found none e = absurd (let z : _≡_ {A = ℕ} 0 1 = cc in omega arith)
+  is-found (some d) e = cc
+
+  found-length : (x : Cost) → solvedAs q x ≡ Found c l t → l ≡ length (written _+_ q)
+  found-length none e = absurd (let z : _≡_ {A = ℕ} 0 1 = cc in omega arith)
+  found-length (some d) e = cc
+
+  found-trials : (x : Cost) → solvedAs q x ≡ Found c l t → t ≡ trials q
+  found-trials none e = absurd (let z : _≡_ {A = ℕ} 0 1 = cc in omega arith)
+  found-trials (some d) e = cc
+
+is-none : (q : Query) (t : ℕ) (x : Cost) → solvedAs q x ≡ NoRoute t → x ≡ none
+is-none q t none e = refl
+is-none q t (some d) e = absurd (let z : _≡_ {A = ℕ} 0 1 = cc in omega arith)
+
+none-trials : (q : Query) (t : ℕ) (x : Cost) → solvedAs q x ≡ NoRoute t → t ≡ trials q
+none-trials q t none e = cc
+none-trials q t (some d) e = absurd (let z : _≡_ {A = ℕ} 0 1 = cc in omega arith)
+
+module _ (p r : Planner) (s : Solved) (n : ℕ) (loaded : p .loaded ≡ true) (enough : 4096 ≤ n) (answer : s ≡ solvedAs (p .query) (cheapest _+_ (p .query)))
+    (r-loaded : r .loaded ≡ p .loaded) (r-query : r .query ≡ p .query) where
+  -- The planner after a plan was found: it is kept, with its cost.
+  module _ (c : Charge) (l t : ℕ) (is : s ≡ Found c l t) where
+    same : solvedAs (p .query) (cheapest _+_ (p .query)) ≡ Found c l t
+    same = sym answer ∙ is
+
+    pub solve-found :
+        (old : List ℕ) → r .plan ≡ planAfter (cheapest _+_ (p .query)) (written _+_ (p .query)) old → r .kept ≡ true → r .cost ≡ c → r .length ≡ l →
+          doneOf (found (c .0) t) r ≡ solve n (stateOf p)
+    unfolding solve
+    solve-found old w k f g =
+        let e = is-found (p .query) c l t (cheapest _+_ (p .query)) same in
+        rw (r-loaded, loaded, r-query, k, f, g, w, le-ltb n 4096 enough, e, found-length (p .query) c l t (cheapest _+_ (p .query)) same,
+          found-trials (p .query) c l t (cheapest _+_ (p .query)) same, take-append-seam (written _+_ (p .query)) (drop (length (written _+_ (p .query))) old))
+
+    pub found-sound : Sound p → r .length ≡ l → Sound r
+    found-sound v g = record {
+      valid = λ _. rw r-query (v .valid loaded);
+      short =
+        let e = is-found (p .query) c l t (cheapest _+_ (p .query)) same in
+        let few = written-law _+_ plus-combines (p .query) (v .valid loaded) (c .0) e .few-steps in
+        rw (g, found-length (p .query) c l t (cheapest _+_ (p .query)) same) (omega (arith, few, step-bytes-long (writtenSteps _+_ (p .query))));
+    }
+
+  pub solve-no-route : (t : ℕ) → s ≡ NoRoute t → r .kept ≡ false → doneOf (noRoute t) r ≡ solve n (stateOf p)
+  unfolding solve
+  solve-no-route t is k =
+      let e = is-none (p .query) t (cheapest _+_ (p .query)) (sym answer ∙ is) in
+      rw (r-loaded, loaded, r-query, k, le-ltb n 4096 enough, e, none-trials (p .query) t (cheapest _+_ (p .query)) (sym answer ∙ is))
+
+  pub no-route-sound : Sound p → r .length ≡ p .length → Sound r
+  no-route-sound v g = record { valid = λ _. rw r-query (v .valid loaded); short = rw g (v .short) }
