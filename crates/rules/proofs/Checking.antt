@@ -1,23 +1,20 @@
 -- Each way through the checker is a case of the definitions: the end condition, a refused step, a step that goes, and refusal 7.
-use Prim.Native.Nat.{ℕ, zero, suc, _+_, _-_, _*_, _≤_, _<_}
+use Prim.Native.Nat.{ℕ, zero, suc, _+_, _*_, _≤_, _<_}
 use mathlib.Core.Path.{_≡_, refl, sym, ap, _∙_}
-use mathlib.Core.Bool.{Bool, true, false, _&&_}
 use mathlib.Core.List.{List, [], _∷_}
 use native.Mathlib.Numerals.{add-one}
 use native.Mathlib.Omega.{arith}
 use lib.ListN.{length, getD, drop, drop-of-length-le}
 use lib.Seq.{drop-cons}
-use lib.Dec.{eqb, leb}
 use borrow.Author.Tests.{le-leb, lt-leb, eq-eqb, ne-eqb}
 use Rattle.relations.specs.Sets.{all}
 use Rattle.query.specs.declared.Query.{Query}
-use Rattle.query.specs.Choice.{pick}
 use Rattle.query.specs.Query.{Valid, relationsOf}
 use Rattle.rules.specs.declared.Held.{Held}
 use Rattle.rules.specs.declared.Stepped.{Stepped}
 use Rattle.rules.specs.declared.Outcome.the-variants.{Went, Refused}
 use Rattle.rules.specs.Machine.{Machine, start, Outcome, went, refused, step}
-use Rattle.rules.specs.Plans.{Step, stepsOf, Verdict, accepted, rejected, after, finish, run, checked}
+use Rattle.rules.specs.Plans.{stepsOf, Verdict, accepted, rejected, after, finish, run, checked}
 use Rattle.rules.specs.Code.{topFirst, machineOf, outcomeOf, numberOf, ofEnd, ofParts, Room}
 use Rattle.rules.proofs.Outcomes.{step-same}
 use Rattle.rules.proofs.Rooms.{step-room}

@@ -11,7 +11,6 @@ use Rattle.relations.specs.declared.Joins.{Joins}
 use Rattle.relations.specs.Sets.{bit}
 use Rattle.relations.specs.Growth.{first, second}
 use Rattle.query.specs.declared.Query.{Query}
-use Rattle.query.specs.Choice.{pick}
 use Rattle.query.specs.Decode.{noJoins}
 use Rattle.query.specs.Query.{relationsOf, sitesOf, home, index, mayJoin, joinFixed, joinRate, isOpen, lineFixed, lineRate, size}
 use Rattle.query.specs.Prices.{linePrice, joinPrice, indexed}

@@ -1,6 +1,6 @@
 -- What a send and a join make, from the numbers that the code looks up: the prices are the query's, and every number is within its limit.
 use Prim.Native.Nat.{ℕ, _+_, _*_, _^_, _≤_, _<_}
-use mathlib.Core.Path.{_≡_, refl, sym, _∙_}
+use mathlib.Core.Path.{_≡_, sym, _∙_}
 use mathlib.Core.Bool.{Bool, _&&_}
 use mathlib.Core.List.{List}
 use native.Mathlib.Omega.{arith}
@@ -12,7 +12,7 @@ use Rattle.relations.specs.declared.Joins.{Joins}
 use Rattle.query.specs.declared.Sites.{Sites}
 use Rattle.query.specs.declared.Relations.{Relations}
 use Rattle.query.specs.declared.Query.{Query}
-use Rattle.query.specs.Query.{UpTo, home, index, lineFixed, lineRate, size, joinFixed, joinRate, relationsOf}
+use Rattle.query.specs.Query.{UpTo, home, index, lineFixed, lineRate, size, joinFixed, joinRate}
 use Rattle.query.specs.Decode.{noRelations, noJoins}
 use Rattle.query.specs.Prices.{linePrice, reads, joinPrice, indexed}
 use Rattle.query.specs.Indexed.{indexedIn}

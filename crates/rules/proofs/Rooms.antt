@@ -1,10 +1,9 @@
 -- A run keeps its room: a load brings a relation that was not loaded, a send takes the figure's allowance for one line, a join that of both operands.
-use Prim.Native.Nat.{ℕ, _+_, _-_, _*_, _^_, _≤_, _<_}
+use Prim.Native.Nat.{ℕ, _+_, _-_, _^_, _≤_, _<_}
 use mathlib.Core.Path.{_≡_, refl}
-use mathlib.Core.Bool.{Bool, true, false, not, _&&_}
+use mathlib.Core.Bool.{false, not, _&&_}
 use mathlib.Core.List.{List, [], _∷_}
 use native.Mathlib.Omega.{arith}
-use lib.ListN.{length}
 use lib.Count.{ones, ones-le}
 use lib.Pow.{pow-pos, pow-mono, pow-lt}
 use lib.Dec.{eqb, ltb}
@@ -12,7 +11,7 @@ use mir.Syntax.{w64}
 use mir.Val.{Fits}
 use borrow.Author.Tests.{ltb-true, eqb-true, not-true}
 use Rattle.relations.specs.Sets.{bit, Sub, all}
-use Rattle.relations.proofs.Bits.{single-apart, bit-add, sub-all, sub-single, bit-all, bit-le, below-of-sub, all-below}
+use Rattle.relations.proofs.Bits.{single-apart, bit-add, sub-all, sub-single, bit-all, below-of-sub, all-below}
 use Rattle.relations.proofs.Counts.{ones-add, ones-pow}
 use Rattle.relations.proofs.Leads.{both-true}
 use Rattle.query.specs.declared.Query.{Query}

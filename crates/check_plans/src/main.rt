@@ -1,0 +1,112 @@
+// Checks plans from standard input: a query file and a plan, and so on, each after its length in two bytes, little-endian.
+// Prints the cost of an allowed plan, or the refusal's number and place; where the query itself is refused, its number alone.
+ghost use Prim.Native.Nat.{_≤_, _<_};
+ghost use lib.ListN.{length};
+use libc::STDIN_FILENO;
+use libc::STDOUT_FILENO;
+use query::Charge;
+use query::Outcome;
+use query::Query;
+use query::decode;
+use rules::Checked;
+use rules::check;
+
+// A number after a space.
+fn number(n: u64) {
+    io::write_all(STDOUT_FILENO, b" ");
+    io::print_decimal(STDOUT_FILENO, n);
+}
+
+fn end_line() {
+    io::write_all(STDOUT_FILENO, b"\n");
+}
+
+fn show_cost(cost: Charge) {
+    io::write_all(STDOUT_FILENO, b"check");
+    number(cost.0);
+    end_line();
+}
+
+fn show_refusal(refusal: u64, place: u64) {
+    io::write_all(STDOUT_FILENO, b"refused");
+    number(refusal);
+    number(place);
+    end_line();
+}
+
+fn show(verdict: Checked) {
+    match verdict {
+        Checked::Accepted(cost) => show_cost(cost),
+        Checked::Rejected { number, place } => show_refusal(number, place),
+    }
+}
+
+fn report(file: &[u8], plan: &[u8]) {
+    let d = decode(file);
+    let o = d.outcome;
+    match o {
+        Outcome::Whole => {
+            let q: Query = d.query;
+            show(check(q, plan));
+        }
+        Outcome::Refused(k) => {
+            io::write_all(STDOUT_FILENO, b"refused");
+            number(k);
+            end_line();
+        }
+    }
+}
+
+fn wide(x: u8) -> usize
+    ensures { λ r. ⌜ r < 256 ⌝ }
+{
+    x as usize
+}
+
+// How many bytes the first record of the input takes with its length: 0 where it is cut.
+fn record(input: &[u8]) -> usize
+    ensures { λ r. ⌜ r ≤ length (now (input .entry)) ⌝ }
+{
+    if input.len() < 2 {
+        return 0;
+    }
+    let n = wide(input[0]) + 256 * wide(input[1]) + 2;
+    if input.len() < n {
+        return 0;
+    }
+    n
+}
+
+// Checks the first pair of the input, and answers how many bytes it took: 0 at the end of the input.
+fn first(input: &[u8]) -> usize
+    ensures { λ r. ⌜ r ≤ length (now (input .entry)) ⌝ }
+{
+    let n = record(input);
+    if n < 2 {
+        return 0;
+    }
+    let rest = &input[n..];
+    let m = record(rest);
+    if m < 2 {
+        return 0;
+    }
+    report(&input[2..n], &rest[2..m]);
+    n + m
+}
+
+fn all(input: &[u8]) {
+    let mut at = 0;
+    while at < input.len() {
+        let used = first(&input[at..]);
+        if used == 0 {
+            return;
+        }
+        at += used;
+    }
+}
+
+fn main() {
+    let mut buffer = io::large_buffer();
+    let n = io::read_full(STDIN_FILENO, &mut buffer);
+    all(&buffer[..n]);
+}
