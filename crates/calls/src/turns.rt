@@ -74,8 +74,7 @@ fn load(p: Planner) -> Turn
     };
     let mut bytes = io::large_buffer();
     let n = at_most(length, 65536);
-    if fill(&mut bytes, n) {
-    } else {
+    if fill(&mut bytes, n) {} else {
         return end(p);
     }
     let d = planner::load(p, &bytes[..n]);
@@ -273,8 +272,7 @@ fn check(p: Planner) -> Turn
     };
     let mut bytes = io::large_buffer();
     let n = at_most(length, 65536);
-    if fill(&mut bytes, n) {
-    } else {
+    if fill(&mut bytes, n) {} else {
         return end(p);
     }
     let a = planner::check(p, &bytes[..n]);

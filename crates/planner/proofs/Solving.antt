@@ -65,20 +65,32 @@ module _ (p r : Planner) (s : Solved) (n : ℕ) (loaded : p .loaded ≡ true) (e
 
     pub solve-found :
         (old : List ℕ) → r .plan ≡ planAfter (cheapest _+_ (p .query)) (written _+_ (p .query)) old → r .kept ≡ true → r .cost ≡ c → r .length ≡ l →
-          doneOf (found (c .0) t) r ≡ solve n (stateOf p)
+        doneOf (found (c .0) t) r ≡ solve n (stateOf p)
     unfolding solve
     solve-found old w k f g =
         let e = is-found (p .query) c l t (cheapest _+_ (p .query)) same in
-        rw (r-loaded, loaded, r-query, k, f, g, w, le-ltb n 4096 enough, e, found-length (p .query) c l t (cheapest _+_ (p .query)) same,
-          found-trials (p .query) c l t (cheapest _+_ (p .query)) same, take-append-seam (written _+_ (p .query)) (drop (length (written _+_ (p .query))) old))
+        rw (
+          r-loaded,
+          loaded,
+          r-query,
+          k,
+          f,
+          g,
+          w,
+          le-ltb n 4096 enough,
+          e,
+          found-length (p .query) c l t (cheapest _+_ (p .query)) same,
+          found-trials (p .query) c l t (cheapest _+_ (p .query)) same,
+          take-append-seam (written _+_ (p .query)) (drop (length (written _+_ (p .query))) old),
+        )
 
     pub found-sound : Sound p → r .length ≡ l → Sound r
     found-sound v g = record {
       valid = λ _. rw r-query (v .valid loaded);
       short =
-        let e = is-found (p .query) c l t (cheapest _+_ (p .query)) same in
-        let few = written-law _+_ plus-combines (p .query) (v .valid loaded) (c .0) e .few-steps in
-        rw (g, found-length (p .query) c l t (cheapest _+_ (p .query)) same) (omega (arith, few, step-bytes-long (writtenSteps _+_ (p .query))));
+          let e = is-found (p .query) c l t (cheapest _+_ (p .query)) same in
+          let few = written-law _+_ plus-combines (p .query) (v .valid loaded) (c .0) e .few-steps in
+          rw (g, found-length (p .query) c l t (cheapest _+_ (p .query)) same) (omega (arith, few, step-bytes-long (writtenSteps _+_ (p .query))));
     }
 
   pub solve-no-route : (t : ℕ) → s ≡ NoRoute t → r .kept ≡ false → doneOf (noRoute t) r ≡ solve n (stateOf p)

@@ -140,8 +140,7 @@ pub fn solve(p: Planner, cells: &mut [u64]) -> AfterSolve
     ensures later { λ _. ⌜ drop 4096 (now (cells .exit)) ≡ drop 4096 (now (cells .entry)) ⌝ }
     ensures refused { λ _. ⌜ (solveAdmitted (stateOf p .query) (length (now (cells .entry))) ≡ false → now (cells .exit) ≡ now (cells .entry)) ⌝ }
 {
-    if p.loaded {
-    } else {
+    if p.loaded {} else {
         return AfterSolve {
             answer: SolveAnswer::Refused(20),
             planner: p,
@@ -172,10 +171,7 @@ pub fn solve(p: Planner, cells: &mut [u64]) -> AfterSolve
         },
         Solved::NoRoute { trials } => AfterSolve {
             answer: SolveAnswer::NoRoute { trials },
-            planner: Planner {
-                kept: false,
-                ..p
-            },
+            planner: Planner { kept: false, ..p },
         },
     }
 }

@@ -1,9 +1,11 @@
 -- `solve` meets its contract: a refusal changes nothing, and otherwise the solver's answer is the definition's.
 use borrow.Author.Needs.{needs}
 use mathlib.Core.Path.{refl}
+use mathlib.Core.Bool.{false}
 use native.Mathlib.Omega.{arith}
 use lib.ListN.{length, replicate}
 use denote.Ref.{now}
+use Rattle.planner.specs.declared.Planner.{Planner}
 use Rattle.planner.proofs.Solving.{solve-nothing, solve-few, not-refused, solve-found, found-sound, solve-no-route, no-route-sound}
 use Rattle.planner.proofs.calls.solve.Statement.{statement}
 use Rattle.planner.proofs.calls.solve.Tie as tie
@@ -46,9 +48,10 @@ returns-3 c =
     let loaded = e .before .if1 .taken in
     let enough = e .if2 .left in
     let answer = d .solve .ensures .0 in
-    let is = c .before .before .s .given .1 in
-    (solve-found p _ _ n loaded enough answer refl refl _ _ _ is (replicate 69 0) (d .solve .ensures .1 .0) refl refl refl,
-      (found-sound p _ _ n loaded enough answer refl refl _ _ _ is (s .pre) refl, (d .solve .ensures .1 .1 .1, not-refused p n loaded enough)))
+    let is = c .before .before .s .given .1 in (
+      solve-found p _ _ n loaded enough answer refl refl _ _ _ is (replicate 69 0) (d .solve .ensures .1 .0) refl refl refl,
+      (found-sound p _ _ n loaded enough answer refl refl _ _ _ is (s .pre) refl, (d .solve .ensures .1 .1 .1, not-refused p n loaded enough)),
+    )
 
 same-length-2 : tie.Need-same-length-2
 same-length-2 c = search needs
@@ -63,8 +66,10 @@ returns-4 c =
     let loaded = e .before .if1 .taken in
     let enough = e .if2 .left in
     let answer = d .solve .ensures .0 in
-    (solve-no-route p _ _ n loaded enough answer refl refl _ (c .before .before .before .before .s2 .given .1) refl,
-      (no-route-sound p _ _ n loaded enough answer refl refl (s .pre) refl, (d .solve .ensures .1 .1 .1, not-refused p n loaded enough)))
+    let r : Planner = record { loaded = p .loaded; query = p .query; kept = false; cost = p .cost; length = p .length; plan = p .plan } in (
+      solve-no-route p r _ n loaded enough answer refl refl _ (c .before .before .before .before .s2 .given .1) refl,
+      (no-route-sound p r _ n loaded enough answer refl refl (s .pre) refl, (d .solve .ensures .1 .1 .1, not-refused p n loaded enough)),
+    )
 
 pub solve-spec : {M : Type 1} → statement M
 solve-spec =

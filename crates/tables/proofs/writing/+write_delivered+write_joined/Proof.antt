@@ -76,7 +76,7 @@ write-delivered-home-of-requires : (t : ℕ) → write-delivered-lts.Need-home-o
   write-joined-below t,
   write-joined.Post,
 ) (write-delivered-at t) write-delivered.Post
-write-delivered-home-of-requires t c κs = 
+write-delivered-home-of-requires t c κs =
     let s = c .before .before .before .before .before in let q = s .args .t1 in let d = s .pre .1 .0 in let room = s .pre .1 .1 in
     (c .before .before .if1 .taken, set-low q (d .known .valid) _ (low q _ _ _ (d .known)))
 
@@ -95,7 +95,7 @@ write-delivered-only-requires : (t : ℕ) → write-delivered-lts.Need-only-requ
   write-joined-below t,
   write-joined.Post,
 ) (write-delivered-at t) write-delivered.Post
-write-delivered-only-requires t c κs = 
+write-delivered-only-requires t c κs =
     let s = c .before .before .before .before .before .before .before in let q = s .args .t1 in let d = s .pre .1 .0 in let room = s .pre .1 .1 in
     (c .before .before .before .before .if1 .taken, set-low q (d .known .valid) _ (low q _ _ _ (d .known)))
 
@@ -114,7 +114,7 @@ write-delivered-put-requires : (t : ℕ) → write-delivered-lts.Need-put-requir
   write-joined-below t,
   write-joined.Post,
 ) (write-delivered-at t) write-delivered.Post
-write-delivered-put-requires t c κs = 
+write-delivered-put-requires t c κs =
     let s = c .before .before .before .before .before .before .before .before in let q = s .args .t1 in let d = s .pre .1 .0 in let room = s .pre .1 .1 in
     let b = one-bytes q _ _ (s .args .set) (s .args .t) _ _ d (c .before .before .before .before .before .if1 .taken) (c .only .ensures .0) (c .before .before .home-of .ensures) in
     (room-first (s .args .out .now) (1 ∷ (c .only .result ∷ [])) (stepBytes (sendIfDue (c .before .before .home-of .result) (s .args .t))) _ _ b room, omega (arith, c .only .ensures .1))
@@ -134,7 +134,7 @@ write-delivered-put-send-requires : (t : ℕ) → write-delivered-lts.Need-put-s
   write-joined-below t,
   write-joined.Post,
 ) (write-delivered-at t) write-delivered.Post
-write-delivered-put-send-requires t c κs = 
+write-delivered-put-send-requires t c κs =
     let s = c .before .before .before .before .before .before .before .before .before .before .before .before in let q = s .args .t1 in let d = s .pre .1 .0 in let room = s .pre .1 .1 in
     let b = one-bytes q _ _ (s .args .set) (s .args .t) _ _ d (c .before .before .before .before .before .before .before .before .before .if1 .taken) (c .before .before .before .before .only .ensures .0) (c .before .before .before .before .before .before .home-of .ensures) in
     (room-next _ _ _ _ _ _ _ b room (c .before .before .before .put .ensures), omega (arith, d .listed, d .known .valid .sites-most))
@@ -171,7 +171,7 @@ write-delivered-returns : (t : ℕ) → write-delivered-lts.Need-returns (
   write-joined-below t,
   write-joined.Post,
 ) (write-delivered-at t) write-delivered.Post
-write-delivered-returns t c = 
+write-delivered-returns t c =
     let s = c .before .before .before .before .before .before .before .before .before .before .before .before .before .before .before in let q = s .args .t1 in let d = s .pre .1 .0 in let room = s .pre .1 .1 in
     let b = one-bytes q _ _ (s .args .set) (s .args .t) _ _ d (c .before .before .before .before .before .before .before .before .before .before .before .before .if1 .taken) (c .before .before .before .before .before .before .before .only .ensures .0) (c .before .before .before .before .before .before .before .before .before .home-of .ensures) in
     wrote-then _ _ _ _ _ _ _ _ _ (c .before .before .before .before .before .before .put .ensures) (c .before .before .put-send .ensures) b
@@ -191,7 +191,7 @@ write-delivered-join-site-requires : (t : ℕ) → write-delivered-lts.Need-join
   write-joined-below t,
   write-joined.Post,
 ) (write-delivered-at t) write-delivered.Post
-write-delivered-join-site-requires t c κs = 
+write-delivered-join-site-requires t c κs =
     let s = c .before .before .before in let q = s .args .t1 in let d = s .pre .1 .0 in let room = s .pre .1 .1 in
     (d .known, d .listed)
 
@@ -210,7 +210,7 @@ write-delivered-write-joined-requires : (t : ℕ) → write-delivered-lts.Need-w
   write-joined-below t,
   write-joined.Post,
 ) (write-delivered-at t) write-delivered.Post
-write-delivered-write-joined-requires t c κs = 
+write-delivered-write-joined-requires t c κs =
     let s = c .before .before .before .before .before in let q = s .args .t1 in let d = s .pre .1 .0 in let room = s .pre .1 .1 in
     let n = c .before .join-site .result in
     let b = more-bytes q _ _ (s .args .set) (s .args .t) _ d (c .before .before .if1 .left) (c .before .join-site .ensures) in
@@ -231,7 +231,7 @@ write-delivered-put-send-requires-2 : (t : ℕ) → write-delivered-lts.Need-put
   write-joined-below t,
   write-joined.Post,
 ) (write-delivered-at t) write-delivered.Post
-write-delivered-put-send-requires-2 t c κs = 
+write-delivered-put-send-requires-2 t c κs =
     let s = c .before .before .before .before .before .before .before .before .before in let q = s .args .t1 in let d = s .pre .1 .0 in let room = s .pre .1 .1 in
     let n = c .before .before .before .before .before .join-site .result in
     let b = more-bytes q _ _ (s .args .set) (s .args .t) _ d (c .before .before .before .before .before .before .if1 .left) (c .before .before .before .before .before .join-site .ensures) in
@@ -269,7 +269,7 @@ write-delivered-returns-2 : (t : ℕ) → write-delivered-lts.Need-returns-2 (
   write-joined-below t,
   write-joined.Post,
 ) (write-delivered-at t) write-delivered.Post
-write-delivered-returns-2 t c = 
+write-delivered-returns-2 t c =
     let s = c .before .before .before .before .before .before .before .before .before .before .before .before in let q = s .args .t1 in let d = s .pre .1 .0 in let room = s .pre .1 .1 in
     let n = c .before .before .before .before .before .before .before .before .join-site .result in
     let b = more-bytes q _ _ (s .args .set) (s .args .t) _ d (c .before .before .before .before .before .before .before .before .before .if1 .left) (c .before .before .before .before .before .before .before .before .join-site .ensures) in
@@ -284,7 +284,7 @@ write-joined-last-join-requires : (t : ℕ) → write-joined-lts.Need-last-join-
   put-reads.Asked,
   put-reads.Learnt,
 ) (write-joined-at t) write-joined.Post
-write-joined-last-join-requires t c κs = 
+write-joined-last-join-requires t c κs =
     let s = c .before .before in let q = s .args .q in let j = s .pre .1 .0 in let room = s .pre .1 .1 in
     (j .known, j .listed)
 
@@ -297,7 +297,7 @@ write-joined-mul-part : (t : ℕ) → write-joined-lts.Need-mul-part (
   put-reads.Asked,
   put-reads.Learnt,
 ) (write-joined-at t) write-joined.Post
-write-joined-mul-part t c = 
+write-joined-mul-part t c =
     let s = c .before .before .before in let q = s .args .q in let j = s .pre .1 .0 in let room = s .pre .1 .1 in
     let e = c .last-join .result in let part = bitAnd (s .args .set) (getD (s .args .t2) e 0) in
     let x = stepBytes (writtenDelivered _+_ q part (s .args .k)) in let y = stepBytes (writtenDelivered _+_ q (s .args .set - part) (s .args .k)) in let z : List ℕ = 3 ∷ (e ∷ []) in
@@ -313,7 +313,7 @@ write-joined-array-read-part : (t : ℕ) → write-joined-lts.Need-array-read-pa
   put-reads.Asked,
   put-reads.Learnt,
 ) (write-joined-at t) write-joined.Post
-write-joined-array-read-part t c = 
+write-joined-array-read-part t c =
     let s = c .before .before .before in let q = s .args .q in let j = s .pre .1 .0 in let room = s .pre .1 .1 in
     let e = c .last-join .result in let part = bitAnd (s .args .set) (getD (s .args .t2) e 0) in
     let x = stepBytes (writtenDelivered _+_ q part (s .args .k)) in let y = stepBytes (writtenDelivered _+_ q (s .args .set - part) (s .args .k)) in let z : List ℕ = 3 ∷ (e ∷ []) in
@@ -329,7 +329,7 @@ write-joined-write-delivered-requires : (t : ℕ) → write-joined-lts.Need-writ
   put-reads.Asked,
   put-reads.Learnt,
 ) (write-joined-at t) write-joined.Post
-write-joined-write-delivered-requires t c κs = 
+write-joined-write-delivered-requires t c κs =
     let s = c .before .before .before .before in let q = s .args .q in let j = s .pre .1 .0 in let room = s .pre .1 .1 in
     let e = c .before .last-join .result in let part = bitAnd (s .args .set) (getD (s .args .t2) e 0) in
     let x = stepBytes (writtenDelivered _+_ q part (s .args .k)) in let y = stepBytes (writtenDelivered _+_ q (s .args .set - part) (s .args .k)) in let z : List ℕ = 3 ∷ (e ∷ []) in
@@ -345,7 +345,7 @@ write-joined-sub-write-delivered : (t : ℕ) → write-joined-lts.Need-sub-write
   put-reads.Asked,
   put-reads.Learnt,
 ) (write-joined-at t) write-joined.Post
-write-joined-sub-write-delivered t c = 
+write-joined-sub-write-delivered t c =
     let s = c .before .before .before .before .before .before .before .before in let q = s .args .q in let j = s .pre .1 .0 in let room = s .pre .1 .1 in
     let e = c .before .before .before .before .before .last-join .result in let part = bitAnd (s .args .set) (getD (s .args .t2) e 0) in
     let x = stepBytes (writtenDelivered _+_ q part (s .args .k)) in let y = stepBytes (writtenDelivered _+_ q (s .args .set - part) (s .args .k)) in let z : List ℕ = 3 ∷ (e ∷ []) in
@@ -362,7 +362,7 @@ write-joined-write-delivered-requires-2 :
       put-reads.Asked,
       put-reads.Learnt,
     ) (write-joined-at t) write-joined.Post
-write-joined-write-delivered-requires-2 t c κs = 
+write-joined-write-delivered-requires-2 t c κs =
     let s = c .before .before .before .before .before .before .before .before in let q = s .args .q in let j = s .pre .1 .0 in let room = s .pre .1 .1 in
     let e = c .before .before .before .before .before .last-join .result in let part = bitAnd (s .args .set) (getD (s .args .t2) e 0) in
     let x = stepBytes (writtenDelivered _+_ q part (s .args .k)) in let y = stepBytes (writtenDelivered _+_ q (s .args .set - part) (s .args .k)) in let z : List ℕ = 3 ∷ (e ∷ []) in
@@ -380,7 +380,7 @@ write-joined-put-requires : (t : ℕ) → write-joined-lts.Need-put-requires (
   put-reads.Asked,
   put-reads.Learnt,
 ) (write-joined-at t) write-joined.Post
-write-joined-put-requires t c κs = 
+write-joined-put-requires t c κs =
     let s = c .before .before .before .before .before .before .before .before .before .before .before .before in let q = s .args .q in let j = s .pre .1 .0 in let room = s .pre .1 .1 in
     let e = c .before .before .before .before .before .before .before .before .before .last-join .result in let part = bitAnd (s .args .set) (getD (s .args .t2) e 0) in
     let x = stepBytes (writtenDelivered _+_ q part (s .args .k)) in let y = stepBytes (writtenDelivered _+_ q (s .args .set - part) (s .args .k)) in let z : List ℕ = 3 ∷ (e ∷ []) in
@@ -409,7 +409,7 @@ write-joined-returns : (t : ℕ) → write-joined-lts.Need-returns (
   put-reads.Asked,
   put-reads.Learnt,
 ) (write-joined-at t) write-joined.Post
-write-joined-returns t c = 
+write-joined-returns t c =
     let s = c .before .before .before .before .before .before .before .before .before .before .before .before .before .before .before in let q = s .args .q in let j = s .pre .1 .0 in let room = s .pre .1 .1 in
     let e = c .before .before .before .before .before .before .before .before .before .before .before .before .last-join .result in let part = bitAnd (s .args .set) (getD (s .args .t2) e 0) in
     let x = stepBytes (writtenDelivered _+_ q part (s .args .k)) in let y = stepBytes (writtenDelivered _+_ q (s .args .set - part) (s .args .k)) in let z : List ℕ = 3 ∷ (e ∷ []) in
