@@ -18,11 +18,11 @@ use Rattle.planner.specs.declared.AfterSolve.{AfterSolve}
 use Rattle.planner.specs.State.{Kept}
 use Rattle.planner.specs.Calls.{Answer, found, noRoute, solveAdmitted}
 use Rattle.planner.specs.Contracts.{stateOf, ofSolve}
-use Rattle.planner.proofs.calls.load.Reads as Load
-use Rattle.planner.proofs.calls.link.Reads as Link
-use Rattle.planner.proofs.calls.solve.Reads as Solve
-use Rattle.planner.proofs.calls.read.Reads as Read
-use Rattle.planner.proofs.calls.check.Reads as Check
+use Rattle.planner.proofs.load.Reads as Load
+use Rattle.planner.proofs.link.Reads as Link
+use Rattle.planner.proofs.solve.Reads as Solve
+use Rattle.planner.proofs.read.Reads as Read
+use Rattle.planner.proofs.check.Reads as Check
 use Rattle.claim.specs.Lists.{Call, inForce, Runs}
 
 -- Nobody can write a plan for the query.

@@ -11,6 +11,7 @@ use Rattle.query.specs.Choice.{pick}
 use Rattle.query.specs.Fields.{Read, value}
 use Rattle.query.specs.Fields as fields
 use Rattle.query.specs.Decode.{decode}
+use Rattle.query.specs.Query.{sitesOf}
 use Rattle.planner.specs.declared.Planner.{Planner}
 use Rattle.planner.specs.declared.AfterLoad.{AfterLoad}
 use Rattle.planner.specs.declared.AfterLink.{AfterLink}
@@ -18,12 +19,12 @@ use Rattle.planner.specs.declared.AfterSolve.{AfterSolve}
 use Rattle.planner.specs.declared.ReadAnswer.{ReadAnswer}
 use Rattle.planner.specs.declared.CheckAnswer.{CheckAnswer}
 use Rattle.planner.specs.Calls.{Link, linkOf, sitesListed, termsInRange, relined}
-use Rattle.planner.proofs.calls.empty.Reads as Empty
-use Rattle.planner.proofs.calls.load.Reads as Load
-use Rattle.planner.proofs.calls.link.Reads as Link-reads
-use Rattle.planner.proofs.calls.solve.Reads as Solve
-use Rattle.planner.proofs.calls.read.Reads as Read-reads
-use Rattle.planner.proofs.calls.check.Reads as Check
+use Rattle.planner.proofs.empty.Reads as Empty
+use Rattle.planner.proofs.load.Reads as Load
+use Rattle.planner.proofs.link.Reads as Link-reads
+use Rattle.planner.proofs.solve.Reads as Solve
+use Rattle.planner.proofs.read.Reads as Read-reads
+use Rattle.planner.proofs.check.Reads as Check
 
 -- A call with its own arguments, input bytes and lent areas, with anything in them.
 pub data Call : Type 0 where
@@ -41,7 +42,7 @@ afterLoad (value q l) o = some q
 -- An admitted link replaces the line from its sender to its receiver in the query in force.
 abbrev pub afterLink : Link → Option Query → Option Query
 afterLink l none = none
-afterLink l (some q) = pick (sitesListed q l) (pick (termsInRange (l .terms)) (some (relined q l)) (some q)) (some q)
+afterLink l (some q) = pick (sitesListed (sitesOf q) (l .sender) (l .receiver)) (pick (termsInRange (l .terms)) (some (relined q l)) (some q)) (some q)
 
 -- Solve, read, check and every refused call leave it as it is.
 abbrev pub force : Call → Option Query → Option Query
