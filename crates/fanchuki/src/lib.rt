@@ -3,13 +3,45 @@ use planner::LoadAnswer;
 use planner::Planner;
 use planner::ReadAnswer;
 use planner::SolveAnswer;
-ghost use Prim.Native.Nat.{_+_};
+ghost use Prim.Native.Nat.{_+_, _≤_};
 ghost use mathlib.Core.Path.{_≡_};
 ghost use Rattle.planner.specs.Contracts.{stateOf, Sound};
 ghost use Rattle.fanchuki.specs.Served.{served, serveRead, serveSolve, serve};
 
-// What is added to a refusal's number.
-const REFUSED: u64 = 256;
+// What stands for a refusal: 256 plus its number.
+fn refusal(k: u64) -> u64
+    requires { ⌜ k ≤ 255 ⌝ }
+    ensures { λ r. ⌜ r ≡ 256 + k ⌝ }
+{
+    256 + k
+}
+
+// Reads the kept plan.
+fn read(p: Planner, output: &mut [u8]) -> u64
+    requires { ⌜ Sound p ⌝ }
+    ensures { λ r. ⌜ served r (now (output .exit)) ≡ serveRead (stateOf p) (now (output .entry)) ⌝ }
+{
+    let a = planner::read(p, output);
+    match a {
+        ReadAnswer::Wrote { length, cost: _ } => length,
+        ReadAnswer::Refused(k) => refusal(k),
+    }
+}
+
+// Solves the standing query over cells of its own, and reads the plan.
+fn solve(p: Planner, output: &mut [u8]) -> u64
+    requires { ⌜ Sound p ⌝ }
+    ensures { λ r. ⌜ served r (now (output .exit)) ≡ serveSolve (stateOf p) (now (output .entry)) ⌝ }
+{
+    let mut cells = [0u64; 4096];
+    let d = planner::solve(p, &mut cells);
+    let a = d.answer;
+    match a {
+        SolveAnswer::Found { cost: _, trials: _ } => read(d.planner, output),
+        SolveAnswer::NoRoute { trials: _ } => 0,
+        SolveAnswer::Refused(k) => refusal(k),
+    }
+}
 
 // Loads, solves and reads, in that order, on a planner of its own.
 #[no_mangle]
@@ -19,10 +51,10 @@ pub extern "C" fn fanchuki_plan(query: &[u8], output: &mut [u8]) -> u64
     let d = planner::load(planner::empty(), query);
     let a = d.answer;
     match a {
-        LoadAnswer::Refused(k) => refusal(k),
         LoadAnswer::Loaded {
             relations: _,
             subqueries: _,
         } => solve(d.planner, output),
+        LoadAnswer::Refused(k) => refusal(k),
     }
 }
