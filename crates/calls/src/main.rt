@@ -4,7 +4,6 @@ mod output;
 mod turns;
 
 use planner::Planner;
-use turns::Turn;
 ghost use Rattle.planner.specs.Contracts.{Sound};
 
 fn main() {

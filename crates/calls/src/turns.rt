@@ -18,34 +18,34 @@ ghost use lib.ListN.{length};
 ghost use Rattle.planner.specs.Contracts.{Sound};
 
 // The planner after a record, and whether the run goes on.
-pub(crate) struct Turn {
+pub(crate) struct After {
     pub planner: Planner,
     pub more: bool,
 }
 
 // A record that is cut or unknown ends the run.
-fn end(p: Planner) -> Turn
+fn end(p: Planner) -> After
     requires { ⌜ Sound p ⌝ }
     ensures { λ r. ⌜ Sound (r .planner) ⌝ }
 {
-    Turn {
+    After {
         planner: p,
         more: false,
     }
 }
 
-fn go_on(p: Planner) -> Turn
+fn go_on(p: Planner) -> After
     requires { ⌜ Sound p ⌝ }
     ensures { λ r. ⌜ Sound (r .planner) ⌝ }
 {
-    Turn {
+    After {
         planner: p,
         more: true,
     }
 }
 
 // The next record.
-pub(crate) fn turn(p: Planner) -> Turn
+pub(crate) fn turn(p: Planner) -> After
     requires { ⌜ Sound p ⌝ }
     ensures { λ r. ⌜ Sound (r .planner) ⌝ }
 {
@@ -64,7 +64,7 @@ pub(crate) fn turn(p: Planner) -> Turn
 }
 
 // 1 load: u16 length, bytes.
-fn load(p: Planner) -> Turn
+fn load(p: Planner) -> After
     requires { ⌜ Sound p ⌝ }
     ensures { λ r. ⌜ Sound (r .planner) ⌝ }
 {
@@ -90,7 +90,7 @@ fn load(p: Planner) -> Turn
 }
 
 // 2 link: sender, receiver, open, fixed, rate as five u64.
-fn link(p: Planner) -> Turn
+fn link(p: Planner) -> After
     requires { ⌜ Sound p ⌝ }
     ensures { λ r. ⌜ Sound (r .planner) ⌝ }
 {
@@ -161,7 +161,7 @@ fn say_cells(kept: bool) {
 }
 
 // 3 solve: u32 number of cells lent, at most 8,192.
-fn solve(p: Planner) -> Turn
+fn solve(p: Planner) -> After
     requires { ⌜ Sound p ⌝ }
     ensures { λ r. ⌜ Sound (r .planner) ⌝ }
 {
@@ -220,7 +220,7 @@ fn output_kept(bytes: &[u8; 4096], to: usize) -> bool
 }
 
 // 4 read: u32 length of the output lent, at most 4,096.
-fn read(p: Planner) -> Turn
+fn read(p: Planner) -> After
     requires { ⌜ Sound p ⌝ }
     ensures { λ r. ⌜ Sound (r .planner) ⌝ }
 {
@@ -262,7 +262,7 @@ fn say_refused(number: u64, place: u64) {
 }
 
 // 5 check: u16 length, plan bytes.
-fn check(p: Planner) -> Turn
+fn check(p: Planner) -> After
     requires { ⌜ Sound p ⌝ }
     ensures { λ r. ⌜ Sound (r .planner) ⌝ }
 {
