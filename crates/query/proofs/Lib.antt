@@ -2,3 +2,12 @@ pub mod Prices
 pub mod Valid
 pub mod Linked
 pub mod Indexed
+pub mod Parts
+pub mod Reading
+pub mod TermsTwo
+pub mod Loops
+pub mod SectionLaws
+pub mod LineLaws
+pub mod SizeLaws
+pub mod Kept
+pub mod FileLaws

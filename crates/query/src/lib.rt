@@ -1,5 +1,18 @@
 // The query, its file and its prices.
+mod decoding;
+mod fields;
+mod items;
+mod line_section;
+mod sections;
+mod sizes;
+
+pub use decoding::Decoded;
+pub use decoding::decode;
+pub use decoding::no_query;
+pub use items::MOST_FIXED;
+pub use items::MOST_RATE;
 use relations::Joins;
+pub use sections::Outcome;
 
 pub mod price;
 

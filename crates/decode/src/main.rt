@@ -1,0 +1,146 @@
+// Decodes query files from standard input, each after its length in two bytes, little-endian, and prints what each holds.
+ghost use Prim.Native.Nat.{_≤_, _<_};
+ghost use lib.ListN.{length};
+use libc::STDIN_FILENO;
+use libc::STDOUT_FILENO;
+use query::Lines;
+use query::Outcome;
+use query::Query;
+use query::Relations;
+use query::Sites;
+use query::decode;
+use relations::Joins;
+
+// A number after a space.
+fn number(n: u64) {
+    io::write_all(STDOUT_FILENO, b" ");
+    io::print_decimal(STDOUT_FILENO, n);
+}
+
+fn end_line() {
+    io::write_all(STDOUT_FILENO, b"\n");
+}
+
+// A line of a word and the first numbers of a list.
+fn numbers(word: &[u8], list: &[u64], count: usize) {
+    io::write_all(STDOUT_FILENO, word);
+    let mut i = 0;
+    while i < count && i < list.len() {
+        number(list[i]);
+        i += 1;
+    }
+    end_line();
+}
+
+// The same for a list of places.
+fn places(word: &[u8], list: &[usize], count: usize) {
+    io::write_all(STDOUT_FILENO, word);
+    let mut i = 0;
+    while i < count && i < list.len() {
+        number(list[i] as u64);
+        i += 1;
+    }
+    end_line();
+}
+
+// A size with its subquery's number; a size of 0 is left out.
+fn size(subquery: usize, bytes: u64) {
+    if bytes == 0 {
+        return;
+    }
+    io::write_all(STDOUT_FILENO, b"size");
+    number(subquery as u64);
+    number(bytes);
+    end_line();
+}
+
+fn sizes(list: &[u64]) {
+    let mut i = 0;
+    while i < list.len() {
+        size(i, list[i]);
+        i += 1;
+    }
+}
+
+// How many places the lines of s senders take.
+fn line_places(s: usize) -> usize {
+    if s < 8 { 8 * s } else { 64 }
+}
+
+fn show(q: Query, subqueries: usize) {
+    let sites: Sites = q.sites;
+    let s = sites.count;
+    numbers(b"may", &sites.may, s);
+    numbers(b"fixed", &sites.fixed, s);
+    numbers(b"rate", &sites.rate, s);
+    let relations: Relations = q.relations;
+    let n = relations.count;
+    places(b"home", &relations.home, n);
+    numbers(b"index", &relations.index, n);
+    let joins: Joins = q.joins;
+    places(b"first", &joins.first, joins.count);
+    places(b"second", &joins.second, joins.count);
+    io::write_all(STDOUT_FILENO, b"subqueries");
+    number(subqueries as u64);
+    end_line();
+    sizes(&q.sizes);
+    let lines: Lines = q.lines;
+    let m = line_places(s);
+    numbers(b"open", &lines.flag, m);
+    numbers(b"line fixed", &lines.fixed, m);
+    numbers(b"line rate", &lines.rate, m);
+    io::write_all(STDOUT_FILENO, b"target");
+    number(q.target as u64);
+    end_line();
+}
+
+fn report(file: &[u8]) {
+    let d = decode(file);
+    let o = d.outcome;
+    match o {
+        Outcome::Whole => show(d.query, d.subqueries),
+        Outcome::Refused(k) => {
+            io::write_all(STDOUT_FILENO, b"refused");
+            number(k);
+            end_line();
+        }
+    }
+}
+
+fn wide(x: u8) -> usize
+    ensures { λ r. ⌜ r < 256 ⌝ }
+{
+    x as usize
+}
+
+// Reports the first file of the input, and answers how many bytes it took with its length: 0 at the end of the input.
+fn first(input: &[u8]) -> usize
+    ensures { λ r. ⌜ r ≤ length (now (input .entry)) ⌝ }
+{
+    if input.len() < 2 {
+        return 0;
+    }
+    let n = wide(input[0]) + 256 * wide(input[1]) + 2;
+    if input.len() < n {
+        return 0;
+    }
+    report(&input[2..n]);
+    n
+}
+
+fn all(input: &[u8]) {
+    let mut at = 0;
+    while at < input.len() {
+        let used = first(&input[at..]);
+        if used == 0 {
+            return;
+        }
+        at += used;
+    }
+}
+
+fn main() {
+    let mut buffer = io::large_buffer();
+    let n = io::read_full(STDIN_FILENO, &mut buffer);
+    all(&buffer[..n]);
+}

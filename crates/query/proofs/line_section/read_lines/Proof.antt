@@ -1,0 +1,42 @@
+-- `read_lines` reads the section Lines: the loop has the answer of the senders from a on.
+use Prim.Native.Nat.{_+_, _-_, _*_, _≤_}
+use mathlib.Core.Path.{_≡_}
+use lib.ListN.{drop}
+use borrow.Author.Needs.{needs}
+use Rattle.query.specs.Fields.{items}
+use Rattle.query.specs.Decode.{sender, linesSection}
+use Rattle.query.proofs.LineLaws.{pairs-fit, sender-on, of-lines}
+use Rattle.query.proofs.line_section.read_lines.Statement.{statement}
+use Rattle.query.proofs.line_section.read_lines.Tie as tie
+
+abbrev Inv-loop : tie.InvT-loop
+Inv-loop part s due lines₀ at₀ a₀ lines at a = (a ≤ s) × ((at ≤ 1 + 72 * a) × (linesSection s part ≡ items (sender s) (s - a) a lines (drop at part)))
+
+abbrev μ-loop : tie.MeasureT-loop
+μ-loop part s due lines₀ at₀ a₀ lines at a = s - a
+
+pub read-lines-spec : {M : Type 1} → statement M
+read-lines-spec =
+    tie.close
+    (tie.spec
+    Inv-loop
+    μ-loop
+    (λ c. search needs)
+    (λ c. search (needs, pairs-fit))
+    (λ c κs. search needs)
+    (λ c κs. search needs)
+    (λ c. search needs)
+    (λ c. search needs)
+    (λ c κs. search needs)
+    (λ c. search (needs, of-lines))
+    (λ c. search (needs, of-lines))
+    (λ c κs. search needs)
+    (λ c κs. search needs)
+    (λ c. search needs)
+    (λ c. search needs)
+    (λ c. search (needs, of-lines))
+    (λ c. search needs)
+    (λ c. search needs)
+    (λ c. search needs)
+    (λ c. (search needs, (search needs, search (needs, sender-on))))
+    (λ c. search (needs, of-lines)))

@@ -1,0 +1,59 @@
+-- How the code's answers stand for readings: each enum, and each section's outcome with what it read and how many bytes it used.
+use Prim.Native.Nat.{ℕ}
+use mathlib.Core.List.{List}
+use lib.ListN.{drop, replicate}
+use Rattle.relations.specs.Trees.{subqueries}
+use Rattle.query.specs.declared.Query.{Query}
+use Rattle.query.specs.declared.fields.Field.{Field}
+use Rattle.query.specs.declared.fields.Field.the-variants as field
+use Rattle.query.specs.declared.items.TermsRead.{TermsRead}
+use Rattle.query.specs.declared.items.TermsRead.the-variants as terms
+use Rattle.query.specs.declared.items.TwoRead.{TwoRead}
+use Rattle.query.specs.declared.items.TwoRead.the-variants as two
+use Rattle.query.specs.declared.sections.Outcome.{Outcome}
+use Rattle.query.specs.declared.sections.Outcome.the-variants as outcome
+use Rattle.query.specs.declared.decoding.Decoded.{Decoded}
+use Rattle.query.specs.Fields.{Read, refused, value}
+use Rattle.query.specs.Decode.{Terms, Two, noSites, noRelations, noJoins, noLines}
+
+abbrev pub fieldOf : Read ℕ → Field
+fieldOf (refused k) = field.Refused k
+fieldOf (value v l) = field.Value v
+
+abbrev pub faultOf : Field → ℕ
+faultOf (field.Value v) = 0
+faultOf (field.Refused k) = k
+
+abbrev pub termsOf : Read Terms → TermsRead
+termsOf (refused k) = terms.Refused k
+termsOf (value t l) = terms.Terms (t .flag) (t .fixed) (t .rate)
+
+abbrev pub termsFault : TermsRead → ℕ
+termsFault (terms.Terms f x r) = 0
+termsFault (terms.Refused k) = k
+
+abbrev pub twoOf : Read Two → TwoRead
+twoOf (refused k) = two.Refused k
+twoOf (value t l) = two.Two (t .one) (t .other)
+
+abbrev pub twoFault : TwoRead → ℕ
+twoFault (two.Two a b) = 0
+twoFault (two.Refused k) = k
+
+-- A section that was read whole used so many bytes; the rest is what follows them.
+abbrev pub readOf : {A : Type 0} → Outcome → A → ℕ → List ℕ → Read A
+readOf outcome.Whole a used l = value a (drop used l)
+readOf (outcome.Refused k) a used l = refused k
+
+abbrev pub outcomeFault : Outcome → ℕ
+outcomeFault outcome.Whole = 0
+outcomeFault (outcome.Refused k) = k
+
+-- A query of zeros.
+unfoldable pub noQuery : Query
+noQuery = record { sites = noSites 0; relations = noRelations 0; joins = noJoins 0; sizes = replicate 512 0; lines = noLines; target = 0 }
+
+-- A decoded file: the query and its number of subqueries, or a refusal and nothing else.
+abbrev pub decodedOf : Read Query → Decoded
+decodedOf (refused k) = record { outcome = outcome.Refused k; query = noQuery; subqueries = 0 }
+decodedOf (value q l) = record { outcome = outcome.Whole; query = q; subqueries = subqueries (q .joins) (q .relations .count) }

@@ -1,0 +1,98 @@
+// The section Lines: by sender, then receiver, the sender itself left out.
+use crate::Lines;
+use crate::fields::Field;
+use crate::fields::count_field;
+use crate::fields::fault;
+use crate::fields::part_from;
+use crate::items::TermsRead;
+use crate::items::read_terms;
+use crate::items::terms_fault;
+use crate::sections::Outcome;
+ghost use Prim.Native.Nat.{_≤_, _<_};
+ghost use mathlib.Core.Path.{_≡_};
+ghost use Rattle.query.specs.Decode.{noLines, sender, linesSection};
+ghost use Rattle.query.specs.Code.{readOf};
+
+pub struct LinesRead {
+    pub outcome: Outcome,
+    pub used: usize,
+    pub lines: Lines,
+}
+
+pub fn no_lines() -> Lines
+    ensures { λ r. ⌜ r ≡ noLines ⌝ }
+{
+    Lines {
+        flag: [0; 64],
+        fixed: [0; 64],
+        rate: [0; 64],
+    }
+}
+
+// The lines of sender a to each receiver of s sites but itself: open flag, fixed amount, rate.
+fn read_sender(part: &[u8], s: usize, a: usize, kept: Lines) -> LinesRead
+    requires { ⌜ (s ≤ 8) × (a < 8) ⌝ }
+    ensures { λ r. ⌜ (readOf (r .outcome) (r .lines) (r .used) (now (part .entry)) ≡ sender s a kept (now (part .entry))) × (r .used ≤ 72) ⌝ }
+{
+    let mut lines = kept;
+    let mut at = 0;
+    let mut b = 0;
+    while b < s {
+        let next = b + 1;
+        if a != b {
+            let t = read_terms(part_from(part, at));
+            let TermsRead::Terms { flag, fixed, rate } = t else {
+                return LinesRead {
+                    outcome: Outcome::Refused(terms_fault(t)),
+                    used: 0,
+                    lines,
+                };
+            };
+            let i = 8 * a + b;
+            lines.flag[i] = flag;
+            lines.fixed[i] = fixed;
+            lines.rate[i] = rate;
+            at += 9;
+        }
+        b = next;
+    }
+    LinesRead {
+        outcome: Outcome::Whole,
+        used: at,
+        lines,
+    }
+}
+
+// Lines of s sites, by sender.
+pub fn read_lines(part: &[u8], s: usize) -> LinesRead
+    requires { ⌜ (1 ≤ s) × (s ≤ 8) ⌝ }
+    ensures { λ r. ⌜ readOf (r .outcome) (r .lines) (r .used) (now (part .entry)) ≡ linesSection s (now (part .entry)) ⌝ }
+{
+    let due = (s * (s - 1)) as u64;
+    let c = count_field(part, due, due);
+    let mut lines = no_lines();
+    let Field::Value(_) = c else {
+        return LinesRead {
+            outcome: Outcome::Refused(fault(c)),
+            used: 0,
+            lines,
+        };
+    };
+    let mut at = 1;
+    let mut a = 0;
+    while a < s {
+        let r = read_sender(part_from(part, at), s, a, lines);
+        let o = r.outcome;
+        let Outcome::Whole = o else {
+            return r;
+        };
+        lines = r.lines;
+        at += r.used;
+        a += 1;
+    }
+    LinesRead {
+        outcome: Outcome::Whole,
+        used: at,
+        lines,
+    }
+}

@@ -1,0 +1,218 @@
+// The sections Sites, Relations, Joins and Delivery, each read from the part of the file that starts where the last one ended.
+use crate::Relations;
+use crate::Sites;
+use crate::fields::Field;
+use crate::fields::byte_below;
+use crate::fields::count_field;
+use crate::fields::fault;
+use crate::fields::part_from;
+use crate::items::TermsRead;
+use crate::items::TwoRead;
+use crate::items::read_terms;
+use crate::items::read_two;
+use crate::items::terms_fault;
+use crate::items::two_fault;
+use relations::Joins;
+ghost use Prim.Native.Nat.{_≤_};
+ghost use mathlib.Core.Path.{_≡_};
+ghost use Rattle.query.specs.Decode.{noSites, noRelations, noJoins, sitesSection, relationsSection, joinsSection, deliverySection};
+ghost use Rattle.query.specs.Code.{readOf};
+
+// How a section's reading ended: with all of it, or with the number of the first refusal.
+pub enum Outcome {
+    Whole,
+    Refused(u64),
+}
+
+// What each section's reading gives: how it ended, how many bytes it used, and what it read.
+pub struct SitesRead {
+    pub outcome: Outcome,
+    pub used: usize,
+    pub sites: Sites,
+}
+
+pub struct RelationsRead {
+    pub outcome: Outcome,
+    pub used: usize,
+    pub relations: Relations,
+}
+
+pub struct JoinsRead {
+    pub outcome: Outcome,
+    pub used: usize,
+    pub joins: Joins,
+}
+
+pub struct DeliveryRead {
+    pub outcome: Outcome,
+    pub used: usize,
+    pub target: usize,
+}
+
+pub fn no_sites(count: usize) -> Sites
+    ensures { λ r. ⌜ r ≡ noSites count ⌝ }
+{
+    Sites {
+        count,
+        may: [0; 8],
+        fixed: [0; 8],
+        rate: [0; 8],
+    }
+}
+
+pub fn no_relations(count: usize) -> Relations
+    ensures { λ r. ⌜ r ≡ noRelations count ⌝ }
+{
+    Relations {
+        count,
+        home: [0; 9],
+        index: [0; 9],
+    }
+}
+
+pub fn no_joins(count: usize) -> Joins
+    ensures { λ r. ⌜ r ≡ noJoins count ⌝ }
+{
+    Joins {
+        count,
+        first: [0; 8],
+        second: [0; 8],
+    }
+}
+
+// Sites: may-join flag, join fixed amount, join rate.
+pub fn read_sites(part: &[u8]) -> SitesRead
+    ensures { λ r. ⌜ readOf (r .outcome) (r .sites) (r .used) (now (part .entry)) ≡ sitesSection (now (part .entry)) ⌝ }
+{
+    let c = count_field(part, 1, 8);
+    let Field::Value(n) = c else {
+        return SitesRead {
+            outcome: Outcome::Refused(fault(c)),
+            used: 0,
+            sites: no_sites(0),
+        };
+    };
+    let count = n as usize;
+    let mut sites = no_sites(count);
+    let mut i = 0;
+    while i < count {
+        let t = read_terms(part_from(part, 1 + 9 * i));
+        let TermsRead::Terms { flag, fixed, rate } = t else {
+            return SitesRead {
+                outcome: Outcome::Refused(terms_fault(t)),
+                used: 0,
+                sites,
+            };
+        };
+        sites.may[i] = flag;
+        sites.fixed[i] = fixed;
+        sites.rate[i] = rate;
+        i += 1;
+    }
+    SitesRead {
+        outcome: Outcome::Whole,
+        used: 1 + 9 * i,
+        sites,
+    }
+}
+
+// Relations: home site, index flag.
+pub fn read_relations(part: &[u8], s: usize) -> RelationsRead
+    requires { ⌜ 1 ≤ s ⌝ }
+    ensures { λ r. ⌜ readOf (r .outcome) (r .relations) (r .used) (now (part .entry)) ≡ relationsSection s (now (part .entry)) ⌝ }
+{
+    let c = count_field(part, 1, 9);
+    let Field::Value(n) = c else {
+        return RelationsRead {
+            outcome: Outcome::Refused(fault(c)),
+            used: 0,
+            relations: no_relations(0),
+        };
+    };
+    let count = n as usize;
+    let mut relations = no_relations(count);
+    let mut i = 0;
+    while i < count {
+        let t = read_two(part_from(part, 1 + 2 * i), s, 2);
+        let TwoRead::Two { one, other } = t else {
+            return RelationsRead {
+                outcome: Outcome::Refused(two_fault(t)),
+                used: 0,
+                relations,
+            };
+        };
+        relations.home[i] = one as usize;
+        relations.index[i] = other;
+        i += 1;
+    }
+    RelationsRead {
+        outcome: Outcome::Whole,
+        used: 1 + 2 * i,
+        relations,
+    }
+}
+
+// Joins of n relations: first relation, second relation.
+pub fn read_joins(part: &[u8], n: usize) -> JoinsRead
+    requires { ⌜ (1 ≤ n) × (n ≤ 9) ⌝ }
+    ensures { λ r. ⌜ readOf (r .outcome) (r .joins) (r .used) (now (part .entry)) ≡ joinsSection n (now (part .entry)) ⌝ }
+{
+    let due = (n - 1) as u64;
+    let c = count_field(part, due, due);
+    let Field::Value(m) = c else {
+        return JoinsRead {
+            outcome: Outcome::Refused(fault(c)),
+            used: 0,
+            joins: no_joins(0),
+        };
+    };
+    let count = m as usize;
+    let mut joins = no_joins(count);
+    let mut i = 0;
+    while i < count {
+        let t = read_two(part_from(part, 1 + 2 * i), n, n);
+        let TwoRead::Two { one, other } = t else {
+            return JoinsRead {
+                outcome: Outcome::Refused(two_fault(t)),
+                used: 0,
+                joins,
+            };
+        };
+        joins.first[i] = one as usize;
+        joins.second[i] = other as usize;
+        i += 1;
+    }
+    JoinsRead {
+        outcome: Outcome::Whole,
+        used: 1 + 2 * i,
+        joins,
+    }
+}
+
+// Delivery: the query site.
+pub fn read_delivery(part: &[u8], s: usize) -> DeliveryRead
+    requires { ⌜ 1 ≤ s ⌝ }
+    ensures { λ r. ⌜ readOf (r .outcome) (r .target) (r .used) (now (part .entry)) ≡ deliverySection s (now (part .entry)) ⌝ }
+{
+    let c = count_field(part, 1, 1);
+    let Field::Value(_) = c else {
+        return DeliveryRead {
+            outcome: Outcome::Refused(fault(c)),
+            used: 0,
+            target: 0,
+        };
+    };
+    let t = byte_below(part_from(part, 1), s);
+    let Field::Value(target) = t else {
+        return DeliveryRead {
+            outcome: Outcome::Refused(fault(t)),
+            used: 0,
+            target: 0,
+        };
+    };
+    DeliveryRead {
+        outcome: Outcome::Whole,
+        used: 2,
+        target: target as usize,
+    }
+}
