@@ -51,7 +51,11 @@ fn show(q: Query)
     let mut plan = [0u8; 69];
     let answer = solve(q, &mut work, &mut plan);
     match answer {
-        Solved::Found { cost, length, trials } => {
+        Solved::Found {
+            cost,
+            length,
+            trials,
+        } => {
             text(b"plan ");
             number(byte(plan[0]));
             text(b" cost ");

@@ -52,9 +52,9 @@ spared-is q v S k low l = go (eqb (ones S) 1) refl
 pub price-is : (q : Query) → Valid q → (P R S k : ℕ) → P + R ≡ S → P < 2 ^ relationsOf q → R < 2 ^ relationsOf q → k < 8 →
     getD (q .sites .fixed) k 0
     + getD (q .sites .rate) k 0
-      * (reads (eqb (sparedAt (q .relations .home) (q .relations .index) P) k) (getD (q .sizes) P 0)
-        (eqb (sparedAt (q .relations .home) (q .relations .index) R) k) (getD (q .sizes) R 0)
-        + getD (q .sizes) S 0)
+    * (reads (eqb (sparedAt (q .relations .home) (q .relations .index) P) k) (getD (q .sizes) P 0)
+    (eqb (sparedAt (q .relations .home) (q .relations .index) R) k) (getD (q .sizes) R 0)
+    + getD (q .sizes) S 0)
     ≡ joinPrice q k (indexed q P k) P (indexed q R k) R
 unfolding joinPrice joinFixed joinRate size
 price-is q v P R S k sum p r l = rw (spared-is q v P k p l, spared-is q v R k r l, ← sum)

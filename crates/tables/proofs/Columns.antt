@@ -77,7 +77,8 @@ module _ (q : Query) (v : Valid q) (work around : List ℕ) (sides : SidesOf (q 
         first-cell = filled .each (firstPart q S e) k (small .first-less) (parts .first-part) m;
         second-cell = filled .each (otherPart q S e) k (small .second-less) (parts .second-part) m;
         first-most = delivered-up-to q v (firstPart q S e) k (parts .first-part);
-        second-most = delivered-up-to q v (otherPart q S e) k (parts .second-part) }
+        second-most = delivered-up-to q v (otherPart q S e) k (parts .second-part);
+      }
 
   trial-shows : (P k : ℕ) → k < 8 → Parts P (S - P) k →
       Shows 85_000_051_000_000 (trialOf work (q .sites .fixed) (q .sites .rate) (splitOf (q .relations .home) (q .relations .index) (q .sizes) S P) k)
@@ -117,7 +118,8 @@ module _ (q : Query) (v : Valid q) (work around : List ℕ) (sides : SidesOf (q 
         few-sites = v .sites-most;
         set-in = set-low q v S (range .1);
         each = λ e k h within m. subst (λ (P : ℕ). Triable work (q .sites .fixed) (q .sites .rate) (splitOf (q .relations .home) (q .relations .index) (q .sizes) S P) k)
-          (sym (part-is e h within)) (triable (firstPart q S e) (otherPart q S e) k (v .sites-most) m (parts-of e k h within m)) }
+            (sym (part-is e h within)) (triable (firstPart q S e) (otherPart q S e) k (v .sites-most) m (parts-of e k h within m));
+      }
     where
       triable : (P R k : ℕ) → sitesOf q ≤ 8 → k < sitesOf q → Parts P (S - P) k →
           Triable work (q .sites .fixed) (q .sites .rate) (splitOf (q .relations .home) (q .relations .index) (q .sizes) S P) k
@@ -133,7 +135,8 @@ module _ (q : Query) (v : Valid q) (work around : List ℕ) (sides : SidesOf (q 
             second-size = v .sizes-most (S - P);
             size-most = v .sizes-most S;
             fixed-most = v .join-fixed-most k;
-            rate-most = v .join-rate-most k }
+            rate-most = v .join-rate-most k;
+          }
 
   -- The row of Joined, once the sites that may not join are taken out.
   pub row-joined : (tried row : List ℕ) → Row tried (joinedBelow l S (q .joins .count)) (sitesOf q) → Row row (permittedAt (q .sites .may) tried) (sitesOf q) →

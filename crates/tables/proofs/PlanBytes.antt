@@ -100,7 +100,7 @@ parted q around work S k e j is =
     let found : ByJoin _+_ q v S k (bestJoin _+_ q S k) (j .cost) = joined-found _+_ q v S k (j .cost) (known .subquery) (j .cost-is) in
     let b : ℕ = bestJoin _+_ q S k in
     let part : bitAnd S (getD around b 0) ≡ firstPart q S b =
-      part-is q v work around (known .sides) S (filled-here q around work S known) (known .subquery) b (found .known) (found .within) in
+    part-is q v work around (known .sides) S (filled-here q around work S known) (known .subquery) b (found .known) (found .within) in
     subst (λ (i : ℕ). Parted q around work S k i (bitAnd S (getD around i 0))) (sym is)
     (subst (λ (P : ℕ). Parted q around work S k b P) (sym part)
     (record {
@@ -109,18 +109,21 @@ parted q around work S k e j is =
         known = record { valid = v; sides = known .sides; filled = known .filled; subquery = found .parts .first-part };
         listed = j .listed;
         cost = found .one;
-        cost-is = found .one-is };
+        cost-is = found .one-is;
+      };
       second = record {
         known = record { valid = v; sides = known .sides; filled = known .filled; subquery = found .parts .second-part };
         listed = j .listed;
         cost = found .other;
-        cost-is = found .other-is };
+        cost-is = found .other-is;
+      };
       first-fewer = found .parts .first-fewer;
       second-fewer = found .parts .second-fewer;
       within = omega (arith, found .parts .whole);
       bytes =
-        step-bytes-append (writtenDelivered _+_ q (firstPart q S b) k) (writtenDelivered _+_ q (otherPart q S b) k ++ (joinStep b ∷ []))
-        ∙ ap (λ (l : List ℕ). stepBytes (writtenDelivered _+_ q (firstPart q S b) k) ++ l) (step-bytes-append (writtenDelivered _+_ q (otherPart q S b) k) (joinStep b ∷ [])) }))
+          step-bytes-append (writtenDelivered _+_ q (firstPart q S b) k) (writtenDelivered _+_ q (otherPart q S b) k ++ (joinStep b ∷ []))
+          ∙ ap (λ (l : List ℕ). stepBytes (writtenDelivered _+_ q (firstPart q S b) k) ++ l) (step-bytes-append (writtenDelivered _+_ q (otherPart q S b) k) (joinStep b ∷ []));
+    }))
 
 -- A send if one is due.
 pub send-none : (l : List ℕ) (at k t : ℕ) → k ≡ t → Wrote l at (stepBytes (sendIfDue k t)) at l

@@ -68,7 +68,8 @@ module _ (q : Query) (v : Valid q) where
       record {
         few = omega (arith, v .tree .joins, v .relations-most);
         first-in = tree-here .first-in;
-        second-in = tree-here .second-in }
+        second-in = tree-here .second-in;
+      }
 
   pub subquery-here : (S : ℕ) (d : Bool) → d ≡ isSubquery (q .joins) (q .joins .count + 1) S → d ≡ true → Subquery (q .joins) (relationsOf q) S
   subquery-here S d e t = subst (λ (n : ℕ). isSubquery (q .joins) n S ≡ true) (v .tree .joins) (sym e ∙ t)
@@ -96,7 +97,8 @@ module _ (q : Query) (v : Valid q) where
         cells = record { room = room; each = λ S t h s m. absurd (omega (arith, subquery-range (q .joins) (relationsOf q) S s .0)) };
         long = refl;
         later = refl;
-        joins = go (isSubquery (q .joins) (relationsOf q) 0) }
+        joins = go (isSubquery (q .joins) (relationsOf q) 0);
+      }
     where
       go : (b : Bool) → 0 ≡ 0 + pick b (ones 0 - 1) 0
       go true = omega (arith, ones-zero)
@@ -111,7 +113,8 @@ module _ (q : Query) (v : Valid q) where
           cells = record { room = g .cells .room; each = λ T t h s m. each T t (eq-or-lt-of-le (le-of-suc-le-suc (rw (add-one S) at h))) s m };
           long = g .long;
           later = g .later;
-          joins = omega (arith, g .joins, joins-next (q .joins) (relationsOf q) S false out) }
+          joins = omega (arith, g .joins, joins-next (q .joins) (relationsOf q) S false out);
+        }
       where
         each : (T t : ℕ) → (T ≡ S) ⊎ (T < S) → Subquery (q .joins) (relationsOf q) T → t < sitesOf q → getD work (place T t) 0 ≡ mark (delivered _+_ q T t)
         each T t (inl e) s m = absurd (never-both _ (subst (λ (X : ℕ). isSubquery (q .joins) (relationsOf q) X ≡ true) e s) (not-here S d test fails))
@@ -124,15 +127,17 @@ module _ (q : Query) (v : Valid q) where
         let s = subquery-here S d test held in
         let low : S < 512 = set-low q v S (subquery-range (q .joins) (relationsOf q) S s .1) in
         let same : drop 4096 new ≡ drop 4096 work =
-          later-same 4096 work new (stored .long)
-          (λ i h. stored .other i (λ t m e. omega (arith, place-low S t low (omega (arith, v .sites-most))))) in
+        later-same 4096 work new (stored .long)
+        (λ i h. stored .other i (λ t m e. omega (arith, place-low S t low (omega (arith, v .sites-most))))) in
         record {
           cells = record {
             room = omega (arith, stored .long, g .cells .room);
-            each = λ T t h p m. each T t (eq-or-lt-of-le (le-of-suc-le-suc (rw (add-one S) at h))) p m };
+            each = λ T t h p m. each T t (eq-or-lt-of-le (le-of-suc-le-suc (rw (add-one S) at h))) p m;
+          };
           long = stored .long ∙ g .long;
           later = same ∙ g .later;
-          joins = omega (arith, sum, g .joins, joins-next (q .joins) (relationsOf q) S true s) }
+          joins = omega (arith, sum, g .joins, joins-next (q .joins) (relationsOf q) S true s);
+        }
       where
         each : (T t : ℕ) → (T ≡ S) ⊎ (T < S) → Subquery (q .joins) (relationsOf q) T → t < sitesOf q → getD new (place T t) 0 ≡ mark (delivered _+_ q T t)
         each T t (inl e) p m = subst (λ (X : ℕ). getD new (place X t) 0 ≡ mark (delivered _+_ q X t)) (sym e) (stored .each t m ∙ is t m)
@@ -169,4 +174,5 @@ going-done q old work S r e g h k is =
       cells = subst (λ (m : ℕ). Filled q work m) all (g .cells);
       long = g .long;
       later = g .later;
-      joins = g .joins ∙ ap (joinsBelow (q .joins) (relationsOf q)) all }
+      joins = g .joins ∙ ap (joinsBelow (q .joins) (relationsOf q)) all;
+    }

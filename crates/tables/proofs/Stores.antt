@@ -34,7 +34,8 @@ wrote-then l m n xs ys zs at r s w x is =
     rw is
     (record {
       next = omega (arith, w .next, x .next, length-append xs ys);
-      stored = x .stored ∙ rw (w .next, w .stored) (sets-append l at xs ys) })
+      stored = x .stored ∙ rw (w .next, w .stored) (sets-append l at xs ys);
+    })
 
 pub wrote-long : (l m xs : List ℕ) (at r : ℕ) → Wrote l at xs r m → length m ≡ length l
 wrote-long l m xs at r w = ap length (w .stored) ∙ length-sets l at xs

@@ -28,7 +28,8 @@ row-more row g k s v r l m e =
     let long : k < length row = omega (arith, r .eight) in
     record {
       eight = length-set row k v ∙ r .eight;
-      each = below-more (λ i. getD (set row k v) i 0 ≡ g i) k (λ i h. getD-set-other row k i v 0 (λ q. omega arith) ∙ r .each i h) (getD-set-same row k v 0 long ∙ e) }
+      each = below-more (λ i. getD (set row k v) i 0 ≡ g i) k (λ i h. getD-set-other row k i v 0 (λ q. omega arith) ∙ r .each i h) (getD-set-same row k v 0 long ∙ e);
+    }
 
 pub row-done : (row : List ℕ) (g : ℕ → ℕ) (k s : ℕ) → Row row g k → s ≤ k → Row row g s
 row-done row g k s r l = record { eight = r .eight; each = λ i h. r .each i (omega arith) }
@@ -49,7 +50,8 @@ tried-more old new g k s t v r l m e f =
     record {
       eight = length-set new k v ∙ r .eight;
       below = below-more (λ i. getD (set new k v) i 0 ≡ lesser (g i) (getD old i 0)) k (λ i h. getD-set-other new k i v 0 (λ q. omega arith) ∙ r .below i h) here;
-      above = λ i h. getD-set-other new k i v 0 (λ q. omega arith) ∙ r .above i (omega arith) }
+      above = λ i h. getD-set-other new k i v 0 (λ q. omega arith) ∙ r .above i (omega arith);
+    }
 
 pub tried-done : (old new : List ℕ) (g : ℕ → ℕ) (k s : ℕ) → TriedTo old new g k → s ≤ k → Tried old new g s
 tried-done old new g k s r l = record { eight = r .eight; each = λ i h. r .below i (omega arith) }
@@ -79,10 +81,11 @@ stored-more old new S t m at v g s l eight e h room here =
     record {
       long = length-set new at v ∙ s .long;
       each =
-        below-more (λ u. getD (set new at v) (place S u) 0 ≡ g u) t
-        (λ u l. getD-set-other new at (place S u) v 0 (λ q. omega (arith, place-apart S S u t (omega arith) low (q ∙ e) .1)) ∙ s .each u l)
-        (rw (← e) (getD-set-same new at v 0 in-new) ∙ here);
-      other = λ i h. getD-set-other new at i v 0 (λ q. h t (omega arith) (q ∙ e)) ∙ s .other i (λ u l. h u (omega arith)) }
+          below-more (λ u. getD (set new at v) (place S u) 0 ≡ g u) t
+          (λ u l. getD-set-other new at (place S u) v 0 (λ q. omega (arith, place-apart S S u t (omega arith) low (q ∙ e) .1)) ∙ s .each u l)
+          (rw (← e) (getD-set-same new at v 0 in-new) ∙ here);
+      other = λ i h. getD-set-other new at i v 0 (λ q. h t (omega arith) (q ∙ e)) ∙ s .other i (λ u l. h u (omega arith));
+    }
 
 pub stored-done : (old new : List ℕ) (S t s : ℕ) (g : ℕ → ℕ) → Stored old new S t g → t ≤ s → s ≤ t → Stored old new S s g
 stored-done old new S t s g r l k = rw (le-antisymm l k) at r
@@ -139,7 +142,8 @@ module _ (l : Lent) (S : ℕ) where
       rw (add-one e)
       (record {
         eight = r .eight;
-        each = λ k h. r .each k h ∙ lesser-kept (joinTrial l S k e) (leastOf (joinTrial l S k) e) (omega (arith, trial-out k e out, least-most (joinTrial l S k) e)) })
+        each = λ k h. r .each k h ∙ lesser-kept (joinTrial l S k e) (leastOf (joinTrial l S k) e) (omega (arith, trial-out k e out, least-most (joinTrial l S k) e));
+      })
 
   -- The joins at one site.
   pub join-better : (k e r : ℕ) (kept made : Choice) (x : Split) → ChoiceOf (joinTrial l S k) e kept → joinIn l S e ≡ true → x ≡ splitBy l S e →

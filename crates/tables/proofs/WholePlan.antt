@@ -32,7 +32,8 @@ module _ (q : Query) (v : Valid q) (c : ℕ) (number : cheapest _+_ q ≡ some c
         known = record { valid = v; sides = sides; filled = filled; subquery = subqueries-law (q .joins) (relationsOf q) (v .tree) .whole };
         listed = v .target-in;
         cost = c;
-        cost-is = number })
+        cost-is = number;
+      })
 
   steps-long : (S : ℕ) → S ≡ all (q .joins .count + 1) → length (stepBytes (writtenDelivered _+_ q S (q .target))) ≤ 68
   steps-long S e = rw (every-is S e) (omega (arith, step-bytes-long (writtenSteps _+_ q), few-steps))

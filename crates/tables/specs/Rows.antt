@@ -41,7 +41,8 @@ Q =
       joins = record { count = 1; first = filled 8 (0 ∷ []); second = filled 8 (1 ∷ []) };
       sizes = filled 512 (0 ∷ 10 ∷ 4 ∷ 3 ∷ []);
       lines = everyLine 3 3 (record { flag = 1; fixed = 1; rate = 1 });
-      target = 0 }
+      target = 0;
+    }
 
 -- A query with one section changed.
 abbrev pub withTarget : ℕ → Query → Query
@@ -55,7 +56,8 @@ withIndex l q =
       joins = q .joins;
       sizes = q .sizes;
       lines = q .lines;
-      target = q .target }
+      target = q .target;
+    }
 
 abbrev pub withMay : List ℕ → Query → Query
 withMay l q =
@@ -65,7 +67,8 @@ withMay l q =
       joins = q .joins;
       sizes = q .sizes;
       lines = q .lines;
-      target = q .target }
+      target = q .target;
+    }
 
 abbrev pub withLines : Lines → Query → Query
 withLines ls q = record { sites = q .sites; relations = q .relations; joins = q .joins; sizes = q .sizes; lines = ls; target = q .target }
@@ -83,7 +86,8 @@ alone q =
       joins = record { count = 0; first = filled 8 []; second = filled 8 [] };
       sizes = filled 512 (0 ∷ 10 ∷ []);
       lines = q .lines;
-      target = q .target }
+      target = q .target;
+    }
 
 -- A chain links each relation with the next, a star relation 0 with each other.
 abbrev pub chainOfNine : Joins

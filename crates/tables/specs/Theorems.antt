@@ -22,13 +22,13 @@ pub record Combines (combine : ℕ → ℕ → ℕ) : Type 0 where
 abbrev pub DeliveredIs : Type 0
 DeliveredIs =
     (combine : ℕ → ℕ → ℕ) (q : Query) → Valid q → (S t : ℕ) → Subquery (q .joins) (relationsOf q) S →
-      delivered combine q S t ≡ deliveredBy (joined combine q S) q S t
+    delivered combine q S t ≡ deliveredBy (joined combine q S) q S t
 
 -- The same for the written plan, wherever there is one.
 abbrev pub WrittenIs : Type 0
 WrittenIs =
     (combine : ℕ → ℕ → ℕ) (q : Query) → Valid q → (S t c : ℕ) → Subquery (q .joins) (relationsOf q) S → delivered combine q S t ≡ some c →
-      writtenDelivered combine q S t ≡ deliveredSteps combine (writtenJoined combine q S) q S t
+    writtenDelivered combine q S t ≡ deliveredSteps combine (writtenJoined combine q S) q S t
 
 -- Where Delivered(all, query site) is a number, the written plan has 1 to 34 steps, is allowed, and costs exactly that number.
 pub record WrittenAt (combine : ℕ → ℕ → ℕ) (q : Query) (c : ℕ) : Type 0 where

@@ -31,7 +31,16 @@ pub fn fill(q: Query, work: &mut [u64]) -> u64
             let size = size_of(&q.sizes, set);
             if relations == 1 {
                 let home = home_of(&q.relations.home, set);
-                store_bare(&mut *work, &q.lines.flag, &q.lines.fixed, &q.lines.rate, size, home, sites, set);
+                store_bare(
+                    &mut *work,
+                    &q.lines.flag,
+                    &q.lines.fixed,
+                    &q.lines.rate,
+                    size,
+                    home,
+                    sites,
+                    set,
+                );
                 set += 1;
                 continue;
             }
@@ -50,7 +59,16 @@ pub fn fill(q: Query, work: &mut [u64]) -> u64
                 set,
             );
             let row = permitted(tried_row, &q.sites.may, sites);
-            store_joined(&mut *work, &row, &q.lines.flag, &q.lines.fixed, &q.lines.rate, size, sites, set);
+            store_joined(
+                &mut *work,
+                &row,
+                &q.lines.flag,
+                &q.lines.fixed,
+                &q.lines.rate,
+                size,
+                sites,
+                set,
+            );
             tried = tried + (relations - 1);
             set += 1;
             continue;

@@ -15,7 +15,14 @@ ghost use Rattle.query.specs.Choice.{pick};
 ghost use Rattle.tables.specs.Code.{noneMark, Triable, trialOf, Tried, Lent, lent, Joinable, Row, joinedBelow, joinTrial, permittedAt, placeOf};
 
 // The row with the figures of one join where they are less.
-fn try_sites<'a>(row: &mut [u64; 8], work: &[u64], fixed: &'a [u64; 8], rate: &'a [u64; 8], parts: Split, sites: usize)
+fn try_sites<'a>(
+    row: &mut [u64; 8],
+    work: &[u64],
+    fixed: &'a [u64; 8],
+    rate: &'a [u64; 8],
+    parts: Split,
+    sites: usize,
+)
     requires { ⌜ (sites ≤ 8) × (length (now row) ≡ 8) ⌝ }
     requires { ⌜ ((k : ℕ) → k < sites → Triable (now work) (now fixed) (now rate) parts k) ⌝ }
     ensures { λ _. ⌜ Tried (now (row .entry)) (now (row .exit)) (trialOf (now (work .entry)) (now (fixed .entry)) (now (rate .entry)) parts) sites ⌝ }
@@ -43,10 +50,8 @@ pub fn join_row<'a>(
     set: usize,
 ) -> [u64; 8]
     requires { ⌜ Joinable (lent (now work) (now sides) (now first) (now second) (now home) (now index) (now sizes) (now fixed) (now rate)) set count sites ⌝ }
-    ensures {
-        λ r.
-        ⌜ Row r (joinedBelow (lent (now (work .entry)) (now (sides .entry)) (now (first .entry)) (now (second .entry)) (now (home .entry)) (now (index .entry)) (now (sizes .entry)) (now (fixed .entry)) (now (rate .entry))) set count) sites ⌝
-    }
+    ensures { λ r.
+        ⌜ Row r (joinedBelow (lent (now (work .entry)) (now (sides .entry)) (now (first .entry)) (now (second .entry)) (now (home .entry)) (now (index .entry)) (now (sizes .entry)) (now (fixed .entry)) (now (rate .entry))) set count) sites ⌝ }
 {
     let mut row = [NONE; 8];
     let mut e = 0;
@@ -99,12 +104,13 @@ pub fn best_join<'a>(
     k: usize,
 ) -> usize
     requires { ⌜ Joinable (lent (now work) (now sides) (now first) (now second) (now home) (now index) (now sizes) (now fixed) (now rate)) set count (k + 1) ⌝ }
-    ensures {
-        λ r.
-        ⌜ r ≡ placeOf (joinTrial (lent (now (work .entry)) (now (sides .entry)) (now (first .entry)) (now (second .entry)) (now (home .entry)) (now (index .entry)) (now (sizes .entry)) (now (fixed .entry)) (now (rate .entry))) set k) count ⌝
-    }
+    ensures { λ r.
+        ⌜ r ≡ placeOf (joinTrial (lent (now (work .entry)) (now (sides .entry)) (now (first .entry)) (now (second .entry)) (now (home .entry)) (now (index .entry)) (now (sizes .entry)) (now (fixed .entry)) (now (rate .entry))) set k) count ⌝ }
 {
-    let mut best = Choice { figure: NONE, at: 0 };
+    let mut best = Choice {
+        figure: NONE,
+        at: 0,
+    };
     let mut e = 0;
     while e < count {
         if bit(set, first[e]) + bit(set, second[e]) == 2 {

@@ -12,7 +12,14 @@ ghost use lib.ListN.{length};
 ghost use Rattle.tables.specs.Code.{noneMark, carriageAt, siteTrial, Priced, Marked, ChoiceOf, deliveredAt, Stored};
 
 // The carriage of a size from site k to site t.
-fn carriage<'a>(flag: &'a [u64; 64], fixed: &'a [u64; 64], rate: &'a [u64; 64], size: Bytes, k: usize, t: usize) -> u64
+fn carriage<'a>(
+    flag: &'a [u64; 64],
+    fixed: &'a [u64; 64],
+    rate: &'a [u64; 64],
+    size: Bytes,
+    k: usize,
+    t: usize,
+) -> u64
     requires { ⌜ Priced (now fixed) (now rate) (size .0) × ((k < 8) × (t < 8)) ⌝ }
     ensures { λ r. ⌜ (r ≡ carriageAt (now (flag .entry)) (now (fixed .entry)) (now (rate .entry)) (size .0) k t) × (r ≤ noneMark) ⌝ }
 {
@@ -28,11 +35,22 @@ fn carriage<'a>(flag: &'a [u64; 64], fixed: &'a [u64; 64], rate: &'a [u64; 64], 
 }
 
 // The lowest site of the least figure by way of it, and that figure.
-pub fn best_site<'a>(row: &[u64; 8], flag: &'a [u64; 64], fixed: &'a [u64; 64], rate: &'a [u64; 64], size: Bytes, sites: usize, t: usize) -> Choice
+pub fn best_site<'a>(
+    row: &[u64; 8],
+    flag: &'a [u64; 64],
+    fixed: &'a [u64; 64],
+    rate: &'a [u64; 64],
+    size: Bytes,
+    sites: usize,
+    t: usize,
+) -> Choice
     requires { ⌜ Marked (now row) sites × (Priced (now fixed) (now rate) (size .0) × (t < 8)) ⌝ }
     ensures { λ r. ⌜ ChoiceOf (siteTrial (now (row .entry)) (now (flag .entry)) (now (fixed .entry)) (now (rate .entry)) (size .0) t) sites r ⌝ }
 {
-    let mut best = Choice { figure: NONE, at: 0 };
+    let mut best = Choice {
+        figure: NONE,
+        at: 0,
+    };
     let mut k = 0;
     while k < sites {
         best = better(row[k] + carriage(flag, fixed, rate, size, k, t), k, best);
@@ -42,17 +60,24 @@ pub fn best_site<'a>(row: &[u64; 8], flag: &'a [u64; 64], fixed: &'a [u64; 64], 
 }
 
 // The cells of a subquery from its row of joins.
-pub fn store_joined<'a>(work: &mut [u64], row: &[u64; 8], flag: &'a [u64; 64], fixed: &'a [u64; 64], rate: &'a [u64; 64], size: Bytes, sites: usize, set: usize)
+pub fn store_joined<'a>(
+    work: &mut [u64],
+    row: &[u64; 8],
+    flag: &'a [u64; 64],
+    fixed: &'a [u64; 64],
+    rate: &'a [u64; 64],
+    size: Bytes,
+    sites: usize,
+    set: usize,
+)
     requires { ⌜ Marked (now row) sites × (Priced (now fixed) (now rate) (size .0) × ((set < 512) × (4096 ≤ length (now work)))) ⌝ }
-    ensures {
-        λ _.
+    ensures { λ _.
         ⌜ Stored
-          (now (work .entry))
-          (now (work .exit))
-          set
-          sites
-          (deliveredAt (now (row .entry)) (now (flag .entry)) (now (fixed .entry)) (now (rate .entry)) (size .0) sites) ⌝
-    }
+        (now (work .entry))
+        (now (work .exit))
+        set
+        sites
+        (deliveredAt (now (row .entry)) (now (flag .entry)) (now (fixed .entry)) (now (rate .entry)) (size .0) sites) ⌝ }
 {
     let mut t = 0;
     while t < sites {
@@ -64,12 +89,19 @@ pub fn store_joined<'a>(work: &mut [u64], row: &[u64; 8], flag: &'a [u64; 64], f
 }
 
 // The cells of one relation from its home.
-pub fn store_bare<'a>(work: &mut [u64], flag: &'a [u64; 64], fixed: &'a [u64; 64], rate: &'a [u64; 64], size: Bytes, home: usize, sites: usize, set: usize)
+pub fn store_bare<'a>(
+    work: &mut [u64],
+    flag: &'a [u64; 64],
+    fixed: &'a [u64; 64],
+    rate: &'a [u64; 64],
+    size: Bytes,
+    home: usize,
+    sites: usize,
+    set: usize,
+)
     requires { ⌜ Priced (now fixed) (now rate) (size .0) × ((home < 8) × ((sites ≤ 8) × ((set < 512) × (4096 ≤ length (now work))))) ⌝ }
-    ensures {
-        λ _.
-        ⌜ Stored (now (work .entry)) (now (work .exit)) set sites (carriageAt (now (flag .entry)) (now (fixed .entry)) (now (rate .entry)) (size .0) home) ⌝
-    }
+    ensures { λ _.
+        ⌜ Stored (now (work .entry)) (now (work .exit)) set sites (carriageAt (now (flag .entry)) (now (fixed .entry)) (now (rate .entry)) (size .0) home) ⌝ }
 {
     let mut t = 0;
     while t < sites {

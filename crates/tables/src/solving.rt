@@ -16,8 +16,14 @@ ghost use Rattle.tables.specs.Solved.{solvedAs, planAfter};
 
 // What solving a query gives: the cost of the cheapest plan, how many bytes it has and the trials; or none, with the trials.
 pub enum Solved {
-    Found { cost: Charge, length: usize, trials: u64 },
-    NoRoute { trials: u64 },
+    Found {
+        cost: Charge,
+        length: usize,
+        trials: u64,
+    },
+    NoRoute {
+        trials: u64,
+    },
 }
 
 // Solves a query over a lent work area, and writes the plan at the front of the other lent area.
@@ -25,10 +31,8 @@ pub fn solve(q: Query, work: &mut [u64], plan: &mut [u8]) -> Solved
     requires { ⌜ Valid q × ((4096 ≤ length (now work)) × (69 ≤ length (now plan))) ⌝ }
     ensures answer { λ r. ⌜ r ≡ solvedAs q (cheapest _+_ q) ⌝ }
     ensures written { λ _. ⌜ now (plan .exit) ≡ planAfter (cheapest _+_ q) (written _+_ q) (now (plan .entry)) ⌝ }
-    ensures cells {
-        λ _.
-        ⌜ (length (now (work .exit)) ≡ length (now (work .entry))) × (drop 4096 (now (work .exit)) ≡ drop 4096 (now (work .entry))) ⌝
-    }
+    ensures cells { λ _.
+        ⌜ (length (now (work .exit)) ≡ length (now (work .entry))) × (drop 4096 (now (work .exit)) ≡ drop 4096 (now (work .entry))) ⌝ }
 {
     let joins = fill(q, &mut *work);
     let sites = q.sites.count as u64;
@@ -37,7 +41,11 @@ pub fn solve(q: Query, work: &mut [u64], plan: &mut [u8]) -> Solved
     let cost = work[at];
     if cost < NONE {
         let length = write_plan(q, &*work, &mut *plan);
-        return Solved::Found { cost: Charge(cost), length, trials };
+        return Solved::Found {
+            cost: Charge(cost),
+            length,
+            trials,
+        };
     }
     Solved::NoRoute { trials }
 }

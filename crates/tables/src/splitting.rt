@@ -61,26 +61,51 @@ fn spared_at<'a>(home: &'a [usize; 9], index: &'a [u64; 9], set: usize) -> usize
     if index[r] == 1 { home[r] } else { 8 }
 }
 
-fn operand_of<'a>(home: &'a [usize; 9], index: &'a [u64; 9], sizes: &'a [u64; 512], set: usize) -> Operand
+fn operand_of<'a>(
+    home: &'a [usize; 9],
+    index: &'a [u64; 9],
+    sizes: &'a [u64; 512],
+    set: usize,
+) -> Operand
     requires { ⌜ set < 512 ⌝ }
     ensures { λ r. ⌜ r ≡ operandOf (now (home .entry)) (now (index .entry)) (now (sizes .entry)) set ⌝ }
 {
     let spared = spared_at(home, index, set);
-    Operand { set, size: Bytes(sizes[set]), spared }
+    Operand {
+        set,
+        size: Bytes(sizes[set]),
+        spared,
+    }
 }
 
 // A set's two parts, of which one is given.
-pub fn split_of<'a>(home: &'a [usize; 9], index: &'a [u64; 9], sizes: &'a [u64; 512], set: usize, part: usize) -> Split
+pub fn split_of<'a>(
+    home: &'a [usize; 9],
+    index: &'a [u64; 9],
+    sizes: &'a [u64; 512],
+    set: usize,
+    part: usize,
+) -> Split
     requires { ⌜ (part ≤ set) × (set < 512) ⌝ }
     ensures { λ r. ⌜ r ≡ splitOf (now (home .entry)) (now (index .entry)) (now (sizes .entry)) set part ⌝ }
 {
     let first = operand_of(home, index, sizes, part);
     let second = operand_of(home, index, sizes, set - part);
-    Split { first, second, size: Bytes(sizes[set]) }
+    Split {
+        first,
+        second,
+        size: Bytes(sizes[set]),
+    }
 }
 
 // The figure of joining the two parts at site k: what both have there and the price of the join.
-pub fn trial<'a>(work: &[u64], fixed: &'a [u64; 8], rate: &'a [u64; 8], parts: Split, k: usize) -> u64
+pub fn trial<'a>(
+    work: &[u64],
+    fixed: &'a [u64; 8],
+    rate: &'a [u64; 8],
+    parts: Split,
+    k: usize,
+) -> u64
     requires { ⌜ Triable (now work) (now fixed) (now rate) parts k ⌝ }
     ensures { λ r. ⌜ r ≡ trialOf (now (work .entry)) (now (fixed .entry)) (now (rate .entry)) parts k ⌝ }
 {
@@ -89,7 +114,12 @@ pub fn trial<'a>(work: &[u64], fixed: &'a [u64; 8], rate: &'a [u64; 8], parts: S
     let size = parts.size;
     let a = place(first.set, k);
     let b = place(second.set, k);
-    let read = reads(first.spared == k, first.size, second.spared == k, second.size);
+    let read = reads(
+        first.spared == k,
+        first.size,
+        second.spared == k,
+        second.size,
+    );
     let price = join_price(Charge(fixed[k]), rate[k], read, size);
     work[a] + work[b] + price.0
 }

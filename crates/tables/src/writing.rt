@@ -63,7 +63,15 @@ fn join_site(q: Query, around: [usize; 8], work: &[u64], set: usize, t: usize) -
         set,
     );
     let row = permitted(tried, &q.sites.may, sites);
-    let best = best_site(&row, &q.lines.flag, &q.lines.fixed, &q.lines.rate, size, sites, t);
+    let best = best_site(
+        &row,
+        &q.lines.flag,
+        &q.lines.fixed,
+        &q.lines.rate,
+        size,
+        sites,
+        t,
+    );
     best.at
 }
 
@@ -89,7 +97,15 @@ fn last_join(q: Query, around: [usize; 8], work: &[u64], set: usize, k: usize) -
 }
 
 // Writes the steps that deliver a set at t: the load for one relation, else those of its join; then a send if one is due.
-fn write_delivered(q: Query, around: [usize; 8], work: &[u64], out: &mut [u8], at: usize, set: usize, t: usize) -> usize
+fn write_delivered(
+    q: Query,
+    around: [usize; 8],
+    work: &[u64],
+    out: &mut [u8],
+    at: usize,
+    set: usize,
+    t: usize,
+) -> usize
     requires { ⌜ ToDeliver q around (now work) set t ⌝ }
     requires { ⌜ at + length (stepBytes (writtenDelivered _+_ q set t)) ≤ length (now out) ⌝ }
     ensures { λ r. ⌜ Wrote (now (out .entry)) at (stepBytes (writtenDelivered _+_ q set t)) r (now (out .exit)) ⌝ }
@@ -105,7 +121,15 @@ fn write_delivered(q: Query, around: [usize; 8], work: &[u64], out: &mut [u8], a
 }
 
 // Writes the steps that join a set at k: the part with the join's first relation, the other part and the join.
-fn write_joined(q: Query, around: [usize; 8], work: &[u64], out: &mut [u8], at: usize, set: usize, k: usize) -> usize
+fn write_joined(
+    q: Query,
+    around: [usize; 8],
+    work: &[u64],
+    out: &mut [u8],
+    at: usize,
+    set: usize,
+    k: usize,
+) -> usize
     requires { ⌜ ToJoin q around (now work) set k ⌝ }
     requires { ⌜ at + length (stepBytes (writtenJoined _+_ q set k)) ≤ length (now out) ⌝ }
     ensures { λ r. ⌜ Wrote (now (out .entry)) at (stepBytes (writtenJoined _+_ q set k)) r (now (out .exit)) ⌝ }
