@@ -111,15 +111,15 @@ pub fn best_join<'a>(
         figure: NONE,
         at: 0,
     };
-    let mut e = 0;
-    while e < count {
-        if bit(set, first[e]) + bit(set, second[e]) == 2 {
-            let parts = split_of(home, index, sizes, set, set & sides[e]);
-            best = better(trial(work, fixed, rate, parts, k), e, best);
-            e += 1;
+    let mut join = 0;
+    while join < count {
+        if bit(set, first[join]) + bit(set, second[join]) == 2 {
+            let parts = split_of(home, index, sizes, set, set & sides[join]);
+            best = better(trial(work, fixed, rate, parts, k), join, best);
+            join += 1;
             continue;
         }
-        e += 1;
+        join += 1;
     }
     best.at
 }

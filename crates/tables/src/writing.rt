@@ -136,8 +136,9 @@ fn write_joined(
 {
     let e = last_join(q, around, work, set, k);
     let part = set & around[e];
+    let rest = set - part;
     let next = write_delivered(q, around, work, &mut *out, at, part, k);
-    let last = write_delivered(q, around, work, &mut *out, next, set - part, k);
+    let last = write_delivered(q, around, work, &mut *out, next, rest, k);
     put(&mut *out, last, 3, e)
 }
 

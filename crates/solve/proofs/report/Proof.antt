@@ -1,6 +1,6 @@
 -- `report` is safe: a file that is decoded whole holds a valid query.
-use Rattle.solve.proofs.Decoded.{decoded-valid}
 use borrow.Author.Needs.{needs}
+use Rattle.solve.proofs.Decoded.{decoded-valid}
 use Rattle.solve.proofs.report.Statement.{statement}
 use Rattle.solve.proofs.report.Tie as tie
 

@@ -1,6 +1,5 @@
 -- `filling::fill` meets its contract: each turn fills the cells of one set more, and the sets below the next one stay filled. Assumes nothing.
-use Prim.Native.Nat.{_+_, _-_, _≤_, _<_}
-use mathlib.Core.Path.{_≡_}
+use Prim.Native.Nat.{_-_, _≤_, _<_}
 use native.Mathlib.Omega.{arith}
 use borrow.Author.Needs.{needs}
 use Rattle.tables.proofs.SetsFilled.{Going, EndOf, ones-fits, drawn-here, lent-here, end-here, priced-here, home-here, joinable-here, marked-here, some-relation, tried-fits, going-start, going-skip, going-joined, going-bare, going-done}
@@ -22,8 +21,7 @@ fill-spec =
     (λ c κs. search (needs, drawn-here))
     (λ c. omega (arith, drawn-here _ (c .before .before .before .pre .0) .few))
     (λ c κs. omega (arith, drawn-here _ (c .before .before .before .pre .0) .few))
-    (λ c.
-    let e = end-here _ (c .before .before .before .before .pre .0) _ (c .single .ensures) in
+    (λ c. let e = end-here _ (c .before .before .before .before .pre .0) _ (c .single .ensures) in
     (e .some, (search needs, (e, search (needs, going-start)))))
     (λ c κs. (search (needs, lent-here), search needs))
     (λ c. ones-fits _ _ _ (c .before .before .before .before .before .before .before .loop-test .taken) (c .before .before .before .before .before .before .before .before .loop .inv .1 .1 .0))
@@ -48,7 +46,7 @@ fill-spec =
     let v = t .before .before .before .before .before .before .before .before .before .before .before .before .before .pre .0 in let test = t .before .is-subquery .ensures in let held = t .if1 .taken in
     some-relation _ v _ _ _ _ g _ test held)
     (λ c. let t = c .before .before .before .before .before .before .before .before .before .before .before .before .before .before .before .before .before .before .before .before .before .before .before .before .before .before .before in let g = t .before .before .before .before .before .before .before .before .loop .inv .1 .1 .1 in
-    let v = t .before .before .before .before .before .before .before .before .before .before .before .before .before .pre .0 in let test = t .before .is-subquery .ensures in let held = t .if1 .taken in
+    let v = t .before .before .before .before .before .before .before .before .before .before .before .before .before .pre .0 in let test = t .before .is-subquery .ensures in
     tried-fits _ v _ _ _ _ g _ test _ (c .before .before .before .before .before .before .before .before .before .before .before .before .before .before .before .before .before .before .before .before .before .before .before .before .before .before .before .before .before .before .before .before .before .before .loop-test .taken) (c .before .before .before .before .before .before .before .before .before .before .before .before .before .before .before .before .before .before .before .before .before .before .before .before .before .before .before .before .before .before .before .before .before .before .before .loop .inv .1 .1 .0))
     (λ c. omega (arith, c .before .before .before .before .before .before .before .before .before .before .before .before .before .before .before .before .before .before .before .before .before .before .before .before .before .before .before .before .before .before .before .before .before .before .loop-test .taken, c .before .before .before .before .before .before .before .before .before .before .before .before .before .before .before .before .before .before .before .before .before .before .before .before .before .before .before .before .before .before .before .before .before .before .before .loop .inv .1 .1 .0 .low))
     (λ c. omega (arith, c .before .before .before .before .before .before .before .before .before .before .before .before .before .before .before .before .before .before .before .before .before .before .before .before .before .before .before .before .before .before .before .before .before .before .loop-test .taken))

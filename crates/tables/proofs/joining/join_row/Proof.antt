@@ -1,12 +1,9 @@
 -- `joining::join_row` meets its contract: each turn tries one join more. Assumes nothing.
-use Prim.Native.Nat.{_+_, _-_, _≤_, _<_}
-use Rattle.tables.proofs.Turns.{join-in, join-out, joined-none, joined-more, joined-same, join-triable, row-same}
-use Rattle.tables.specs.Code.{lent, Row, joinedBelow}
-use borrow.Author.Needs.{needs}
+use Prim.Native.Nat.{_-_, _≤_}
 use lib.Bits.{and-le-l}
-use lib.ListN.{length}
-use mathlib.Core.Path.{_≡_}
-use native.Mathlib.Omega.{arith}
+use borrow.Author.Needs.{needs}
+use Rattle.tables.specs.Code.{lent, Row, joinedBelow}
+use Rattle.tables.proofs.Turns.{join-in, join-out, joined-none, joined-more, joined-same, join-triable, row-same}
 use Rattle.tables.proofs.joining.join_row.Statement.{statement}
 use Rattle.tables.proofs.joining.join_row.Tie as tie
 

@@ -1,17 +1,19 @@
-use Rattle.tables.specs.Plan.{stepBytes, sendIfDue, writtenDelivered, writtenJoined}
-use lib.ListN.{length, getD, length-append}
-use lib.Bits.{bitAnd}
-use mathlib.Core.List.{List, [], _∷_, _++_}
-use mathlib.Core.Path.{refl, ap}
-use Rattle.tables.proofs.PlanBytes.{low, one-bytes, more-join, more-bytes, Parted, parted}
-use Rattle.tables.proofs.Stores.{wrote-then, wrote-long, room-first, room-next}
-use Rattle.tables.proofs.Columns.{set-low}
-use lib.Count.{ones}
-use native.Mathlib.Omega.{arith}
-use borrow.Author.Needs.{needs}
+-- `writing::write_delivered` and `writing::write_joined` meet their contracts: each piece is written where the last one ended, and the number of
+-- relations in the subquery falls with each call of the one by the other that goes to a part. Assumes nothing.
 use Prim.Native.Nat.{ℕ, _+_, _-_, _*_, _<_}
+use native.Mathlib.Omega.{arith}
+use mathlib.Core.List.{List, [], _∷_, _++_}
+use mathlib.Core.Path.{refl}
+use lib.ListN.{getD, length-append}
+use lib.Bits.{bitAnd}
+use lib.Count.{ones}
+use borrow.Author.Needs.{needs}
 use borrow.Fn.Kinds.{In}
 use borrow.Fn.PlainCycle.{Measures, is, falls, and}
+use Rattle.tables.specs.Plan.{stepBytes, sendIfDue, writtenDelivered, writtenJoined}
+use Rattle.tables.proofs.PlanBytes.{low, one-bytes, more-join, more-bytes, parted}
+use Rattle.tables.proofs.Stores.{wrote-then, room-first, room-next}
+use Rattle.tables.proofs.Columns.{set-low}
 use Rattle.tables.proofs.writing.write_delivered.Reads as write-delivered
 use Rattle.tables.proofs.writing.write_delivered.Kinds as write-delivered-kinds
 use Rattle.tables.proofs.writing.+write_delivered+write_joined.Lts-write_delivered as write-delivered-lts
@@ -79,9 +81,9 @@ pub +write-delivered+write-joined-spec : {M : Type 1} → statement M
     )
     (write-delivered-at t)
     write-delivered.Post
-    (λ c κs. let s = c .before .before .before .before .before in let q = s .args .t1 in let d = s .pre .1 .0 in let room = s .pre .1 .1 in
+    (λ c κs. let s = c .before .before .before .before .before in let q = s .args .t1 in let d = s .pre .1 .0 in
     (c .before .before .if1 .taken, set-low q (d .known .valid) _ (low q _ _ _ (d .known))))
-    (λ c κs. let s = c .before .before .before .before .before .before .before in let q = s .args .t1 in let d = s .pre .1 .0 in let room = s .pre .1 .1 in
+    (λ c κs. let s = c .before .before .before .before .before .before .before in let q = s .args .t1 in let d = s .pre .1 .0 in
     (c .before .before .before .before .if1 .taken, set-low q (d .known .valid) _ (low q _ _ _ (d .known))))
     (λ c κs. let s = c .before .before .before .before .before .before .before .before in let q = s .args .t1 in let d = s .pre .1 .0 in let room = s .pre .1 .1 in
     let b = one-bytes q _ _ (s .args .set) (s .args .t) _ _ d (c .before .before .before .before .before .if1 .taken) (c .only .ensures .0) (c .before .before .home-of .ensures) in
@@ -90,22 +92,20 @@ pub +write-delivered+write-joined-spec : {M : Type 1} → statement M
     let b = one-bytes q _ _ (s .args .set) (s .args .t) _ _ d (c .before .before .before .before .before .before .before .before .before .if1 .taken) (c .before .before .before .before .only .ensures .0) (c .before .before .before .before .before .before .home-of .ensures) in
     (room-next _ _ _ _ _ _ _ b room (c .before .before .before .put .ensures), omega (arith, d .listed, d .known .valid .sites-most)))
     (λ c. search needs)
-    (λ c. let s = c .before .before .before .before .before .before .before .before .before .before .before .before .before .before .before in let q = s .args .t1 in let d = s .pre .1 .0 in let room = s .pre .1 .1 in
+    (λ c. let s = c .before .before .before .before .before .before .before .before .before .before .before .before .before .before .before in let q = s .args .t1 in let d = s .pre .1 .0 in
     let b = one-bytes q _ _ (s .args .set) (s .args .t) _ _ d (c .before .before .before .before .before .before .before .before .before .before .before .before .if1 .taken) (c .before .before .before .before .before .before .before .only .ensures .0) (c .before .before .before .before .before .before .before .before .before .home-of .ensures) in
     wrote-then _ _ _ _ _ _ _ _ _ (c .before .before .before .before .before .before .put .ensures) (c .before .before .put-send .ensures) b)
-    (λ c κs. let s = c .before .before .before in let q = s .args .t1 in let d = s .pre .1 .0 in let room = s .pre .1 .1 in
+    (λ c κs. let s = c .before .before .before in let d = s .pre .1 .0 in
     (d .known, d .listed))
     (λ c κs. let s = c .before .before .before .before .before in let q = s .args .t1 in let d = s .pre .1 .0 in let room = s .pre .1 .1 in
     let n = c .before .join-site .result in
     let b = more-bytes q _ _ (s .args .set) (s .args .t) _ d (c .before .before .if1 .left) (c .before .join-site .ensures) in
     (omega (arith, s .pre .0), (more-join q _ _ (s .args .set) (s .args .t) _ d (c .before .before .if1 .left) (c .before .join-site .ensures), room-first (s .args .out .now) (stepBytes (writtenJoined _+_ q (s .args .set) n)) (stepBytes (sendIfDue n (s .args .t))) _ _ b room)))
     (λ c κs. let s = c .before .before .before .before .before .before .before .before .before in let q = s .args .t1 in let d = s .pre .1 .0 in let room = s .pre .1 .1 in
-    let n = c .before .before .before .before .before .join-site .result in
     let b = more-bytes q _ _ (s .args .set) (s .args .t) _ d (c .before .before .before .before .before .before .if1 .left) (c .before .before .before .before .before .join-site .ensures) in
     (room-next _ _ _ _ _ _ _ b room (c .before .before .before .write-joined .ensures), omega (arith, d .listed, d .known .valid .sites-most)))
     (λ c. search needs)
-    (λ c. let s = c .before .before .before .before .before .before .before .before .before .before .before .before in let q = s .args .t1 in let d = s .pre .1 .0 in let room = s .pre .1 .1 in
-    let n = c .before .before .before .before .before .before .before .before .join-site .result in
+    (λ c. let s = c .before .before .before .before .before .before .before .before .before .before .before .before in let q = s .args .t1 in let d = s .pre .1 .0 in
     let b = more-bytes q _ _ (s .args .set) (s .args .t) _ d (c .before .before .before .before .before .before .before .before .before .if1 .left) (c .before .before .before .before .before .before .before .before .join-site .ensures) in
     wrote-then _ _ _ _ _ _ _ _ _ (c .before .before .before .before .before .before .write-joined .ensures) (c .before .before .put-send2 .ensures) b))
     λ t. write-joined-lts.spec (
@@ -118,28 +118,22 @@ pub +write-delivered+write-joined-spec : {M : Type 1} → statement M
     )
     (write-joined-at t)
     write-joined.Post
-    (λ c κs. let s = c .before .before in let q = s .args .q in let j = s .pre .1 .0 in let room = s .pre .1 .1 in
+    (λ c κs. let s = c .before .before in let j = s .pre .1 .0 in
     (j .known, j .listed))
-    (λ c. let s = c .before .before .before in let q = s .args .q in let j = s .pre .1 .0 in let room = s .pre .1 .1 in
-    let e = c .last-join .result in let part = bitAnd (s .args .set) (getD (s .args .t2) e 0) in
-    let x = stepBytes (writtenDelivered _+_ q part (s .args .k)) in let y = stepBytes (writtenDelivered _+_ q (s .args .set - part) (s .args .k)) in let z : List ℕ = 3 ∷ (e ∷ []) in
+    (λ c. let s = c .before .before .before in let q = s .args .q in let j = s .pre .1 .0 in
     let p = parted q _ _ (s .args .set) (s .args .k) _ j (c .last-join .ensures) in
     omega (arith, p .join-low))
-    (λ c. let s = c .before .before .before in let q = s .args .q in let j = s .pre .1 .0 in let room = s .pre .1 .1 in
-    let e = c .last-join .result in let part = bitAnd (s .args .set) (getD (s .args .t2) e 0) in
-    let x = stepBytes (writtenDelivered _+_ q part (s .args .k)) in let y = stepBytes (writtenDelivered _+_ q (s .args .set - part) (s .args .k)) in let z : List ℕ = 3 ∷ (e ∷ []) in
+    (λ c. let s = c .before .before .before in let q = s .args .q in let j = s .pre .1 .0 in
     let p = parted q _ _ (s .args .set) (s .args .k) _ j (c .last-join .ensures) in
     p .join-low)
+    (λ c. let s = c .before .before .before in let q = s .args .q in let j = s .pre .1 .0 in
+    let p = parted q _ _ (s .args .set) (s .args .k) _ j (c .last-join .ensures) in
+    p .within)
     (λ c κs. let s = c .before .before .before .before in let q = s .args .q in let j = s .pre .1 .0 in let room = s .pre .1 .1 in
     let e = c .before .last-join .result in let part = bitAnd (s .args .set) (getD (s .args .t2) e 0) in
     let x = stepBytes (writtenDelivered _+_ q part (s .args .k)) in let y = stepBytes (writtenDelivered _+_ q (s .args .set - part) (s .args .k)) in let z : List ℕ = 3 ∷ (e ∷ []) in
     let p = parted q _ _ (s .args .set) (s .args .k) _ j (c .before .last-join .ensures) in
     (omega (arith, s .pre .0, p .first-fewer), (p .first, room-first (s .args .out .now) x (y ++ z) _ _ (p .bytes) room)))
-    (λ c. let s = c .before .before .before .before .before .before .before .before in let q = s .args .q in let j = s .pre .1 .0 in let room = s .pre .1 .1 in
-    let e = c .before .before .before .before .before .last-join .result in let part = bitAnd (s .args .set) (getD (s .args .t2) e 0) in
-    let x = stepBytes (writtenDelivered _+_ q part (s .args .k)) in let y = stepBytes (writtenDelivered _+_ q (s .args .set - part) (s .args .k)) in let z : List ℕ = 3 ∷ (e ∷ []) in
-    let p = parted q _ _ (s .args .set) (s .args .k) _ j (c .before .before .before .before .before .last-join .ensures) in
-    p .within)
     (λ c κs. let s = c .before .before .before .before .before .before .before .before in let q = s .args .q in let j = s .pre .1 .0 in let room = s .pre .1 .1 in
     let e = c .before .before .before .before .before .last-join .result in let part = bitAnd (s .args .set) (getD (s .args .t2) e 0) in
     let x = stepBytes (writtenDelivered _+_ q part (s .args .k)) in let y = stepBytes (writtenDelivered _+_ q (s .args .set - part) (s .args .k)) in let z : List ℕ = 3 ∷ (e ∷ []) in
@@ -155,10 +149,9 @@ pub +write-delivered+write-joined-spec : {M : Type 1} → statement M
     let room1 = room-next _ _ x (y ++ z) _ _ _ (p .bytes) room first in
     (room-next _ _ y z (y ++ z) _ _ refl room1 (c .before .before .before .write-delivered2 .ensures), omega (arith, p .join-low)))
     (λ c. search needs)
-    (λ c. let s = c .before .before .before .before .before .before .before .before .before .before .before .before .before .before .before in let q = s .args .q in let j = s .pre .1 .0 in let room = s .pre .1 .1 in
+    (λ c. let s = c .before .before .before .before .before .before .before .before .before .before .before .before .before .before .before in let q = s .args .q in let j = s .pre .1 .0 in
     let e = c .before .before .before .before .before .before .before .before .before .before .before .before .last-join .result in let part = bitAnd (s .args .set) (getD (s .args .t2) e 0) in
     let x = stepBytes (writtenDelivered _+_ q part (s .args .k)) in let y = stepBytes (writtenDelivered _+_ q (s .args .set - part) (s .args .k)) in let z : List ℕ = 3 ∷ (e ∷ []) in
     let p = parted q _ _ (s .args .set) (s .args .k) _ j (c .before .before .before .before .before .before .before .before .before .before .before .before .last-join .ensures) in
     let first = c .before .before .before .before .before .before .before .before .before .before .write-delivered .ensures in
-    let room1 = room-next _ _ x (y ++ z) _ _ _ (p .bytes) room first in
     wrote-then _ _ _ x (y ++ z) _ _ _ _ first (wrote-then _ _ _ y z (y ++ z) _ _ _ (c .before .before .before .before .before .before .write-delivered2 .ensures) (c .before .before .put .ensures) refl) (p .bytes))
