@@ -1,7 +1,7 @@
 -- What a decoded file holds is a valid query: nothing is left after Delivery, so the decoder's theorem applies.
 use Prim.Native.Nat.{ℕ}
 use native.Mathlib.Omega.{arith}
-use mathlib.Core.Path.{_≡_, refl, sym, subst, _∙_}
+use mathlib.Core.Path.{_≡_, refl}
 use mathlib.Core.Bool.{Bool, true, false}
 use mathlib.Core.List.{List, []}
 use lib.Dec.{eqb}
@@ -9,7 +9,6 @@ use lib.ListN.{length}
 use Rattle.relations.specs.Trees.{reaches}
 use Rattle.query.specs.declared.Query.{Query}
 use Rattle.query.specs.declared.decoding.Decoded.{Decoded}
-use Rattle.query.specs.declared.sections.Outcome.{Outcome}
 use Rattle.query.specs.declared.sections.Outcome.the-variants as outcome
 use Rattle.query.specs.Choice.{pick}
 use Rattle.query.specs.Fields.{Read, refused, value, andThen}

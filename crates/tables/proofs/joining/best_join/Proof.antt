@@ -3,17 +3,17 @@ use Prim.Native.Nat.{_-_, _≤_}
 use native.Mathlib.Omega.{arith}
 use lib.Bits.{and-le-l}
 use borrow.Author.Needs.{needs}
-use Rattle.tables.specs.Code.{lent, ChoiceOf, joinTrial}
+use Rattle.tables.specs.Code.{lentOf, ChoiceOf, joinTrial}
 use Rattle.tables.proofs.Figures.{choice-none}
 use Rattle.tables.proofs.Turns.{join-in, join-out, join-triable, join-better, join-worse, choice-at}
 use Rattle.tables.proofs.joining.best_join.Statement.{statement}
 use Rattle.tables.proofs.joining.best_join.Tie as tie
 
 abbrev Inv-loop : tie.InvT-loop
-Inv-loop work sides first second home index sizes fixed rate count set k best₀ join₀ best join = (join ≤ count) × ChoiceOf (joinTrial (lent work sides first second home index sizes fixed rate) set k) join best
+Inv-loop work around sizes set k joins relations sites count best₀ join₀ best join = (join ≤ count) × ChoiceOf (joinTrial (lentOf work around joins relations sizes sites) set k) join best
 
 abbrev μ-loop : tie.MeasureT-loop
-μ-loop work sides first second home index sizes fixed rate count set k best₀ join₀ best join = count - join
+μ-loop work around sizes set k joins relations sites count best₀ join₀ best join = count - join
 
 pub best-join-spec : {M : Type 1} → statement M
 best-join-spec =
@@ -31,22 +31,22 @@ best-join-spec =
     (λ c. search needs)
     (λ c. search needs)
     (λ c. search needs)
-    (λ c κs. (and-le-l _ _, search needs))
-    (λ c κs. let s = c .before .before .before .before .before .before .before .before .before .before in
-    let l = lent (s .args .work .now) (s .args .sides .now) (s .args .first .now) (s .args .second .now) (s .args .home .now) (s .args .index .now) (s .args .sizes .now) (s .args .fixed .now) (s .args .rate .now) in
-    let i = join-in l (s .args .set) (c .before .before .before .before .before .before .before .before .loop .join) _ _ (c .before .before .before .before .before .bit .ensures .0) (c .before .before .before .bit2 .ensures .0) (c .before .before .if1 .taken) in
-    join-triable l (s .args .set) (c .before .before .before .before .before .before .before .before .loop .join) _ _ _ (s .pre) (c .before .before .before .before .before .before .before .loop-test .taken) i (c .split-of .ensures) (s .args .k) (omega arith))
+    (λ c κs. (and-le-l _ _, c .before .before .before .before .before .before .before .before .before .before .before .before .pre .set-in))
+    (λ c κs. let s = c .before .before .before .before .before .before .before .before .before .before .before .before .before .before .before .before in
+    let l = lentOf (s .args .work .now) (s .args .around .now) (s .args .t3) (s .args .t4) (s .args .sizes .now) (s .args .t6) in
+    let i = join-in l (s .args .set) (c .before .before .before .before .before .before .before .before .before .before .before .before .before .before .loop .join) _ _ (c .before .before .before .before .before .before .before .before .before .before .before .bit .ensures .0) (c .before .before .before .before .before .before .before .before .before .bit2 .ensures .0) (c .before .before .before .before .before .before .before .before .if1 .taken) in
+    join-triable l (s .args .set) (c .before .before .before .before .before .before .before .before .before .before .before .before .before .before .loop .join) _ _ _ (s .pre) (c .before .before .before .before .before .before .before .before .before .before .before .before .before .loop-test .taken) i (c .before .before .before .split-of .ensures) (s .args .k) (omega arith))
     (λ c κs. search needs)
-    (λ c. search needs)
-    (λ c. search needs)
-    (λ c. let s = c .before .before .before .before .before .before .before .before .before .before .before .before in
-    let l = lent (s .args .work .now) (s .args .sides .now) (s .args .first .now) (s .args .second .now) (s .args .home .now) (s .args .index .now) (s .args .sizes .now) (s .args .fixed .now) (s .args .rate .now) in
-    let i = join-in l (s .args .set) (c .before .before .before .before .before .before .before .before .before .before .loop .join) _ _ (c .before .before .before .before .before .before .before .bit .ensures .0) (c .before .before .before .before .before .bit2 .ensures .0) (c .before .before .before .before .if1 .taken) in
-    (omega (arith, c .before .before .before .before .before .before .before .before .before .loop-test .taken), join-better l (s .args .set) _ (c .before .before .before .before .before .before .before .before .before .before .loop .join) _ _ _ _ (c .before .before .before .before .before .before .before .before .before .before .loop .inv .1) i (c .before .before .split-of .ensures) (c .before .trial .ensures) (c .better .ensures)))
+    (λ c. omega (arith, c .before .before .before .before .before .before .before .before .before .before .before .before .before .before .before .loop-test .taken, c .before .before .before .before .before .before .before .before .before .before .before .before .before .before .before .before .before .before .pre .few-joins))
+    (λ c. omega (arith, c .before .before .before .before .before .before .before .before .before .before .before .before .before .before .before .loop-test .taken))
+    (λ c. let s = c .before .before .before .before .before .before .before .before .before .before .before .before .before .before .before .before .before .before in
+    let l = lentOf (s .args .work .now) (s .args .around .now) (s .args .t3) (s .args .t4) (s .args .sizes .now) (s .args .t6) in
+    let i = join-in l (s .args .set) (c .before .before .before .before .before .before .before .before .before .before .before .before .before .before .before .before .loop .join) _ _ (c .before .before .before .before .before .before .before .before .before .before .before .before .before .bit .ensures .0) (c .before .before .before .before .before .before .before .before .before .before .before .bit2 .ensures .0) (c .before .before .before .before .before .before .before .before .before .before .if1 .taken) in
+    (omega (arith, c .before .before .before .before .before .before .before .before .before .before .before .before .before .before .before .loop-test .taken), join-better l (s .args .set) _ (c .before .before .before .before .before .before .before .before .before .before .before .before .before .before .before .before .loop .join) _ _ _ _ (c .before .before .before .before .before .before .before .before .before .before .before .before .before .before .before .before .loop .inv .1) i (c .before .before .before .before .before .split-of .ensures) (c .before .trial .ensures) (c .better .ensures)))
     (λ c. search needs)
     (λ c. search needs)
     (λ c. let s = c .before .before .before .before .before .before .before .before in
-    let l = lent (s .args .work .now) (s .args .sides .now) (s .args .first .now) (s .args .second .now) (s .args .home .now) (s .args .index .now) (s .args .sizes .now) (s .args .fixed .now) (s .args .rate .now) in
+    let l = lentOf (s .args .work .now) (s .args .around .now) (s .args .t3) (s .args .t4) (s .args .sizes .now) (s .args .t6) in
     let i = join-out l (s .args .set) (c .before .before .before .before .before .before .loop .join) _ _ (c .before .before .before .bit .ensures .0) (c .before .bit2 .ensures .0) (c .if1 .left) in
     (search needs, join-worse l (s .args .set) _ (c .before .before .before .before .before .before .loop .join) _ (c .before .before .before .before .before .before .loop .inv .1) i))
     (λ c. search (needs, choice-at)))

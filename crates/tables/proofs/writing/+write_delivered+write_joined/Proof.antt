@@ -96,7 +96,7 @@ pub +write-delivered+write-joined-spec : {M : Type 1} → statement M
     let b = one-bytes q _ _ (s .args .set) (s .args .t) _ _ d (c .before .before .before .before .before .before .before .before .before .before .before .before .if1 .taken) (c .before .before .before .before .before .before .before .only .ensures .0) (c .before .before .before .before .before .before .before .before .before .home-of .ensures) in
     wrote-then _ _ _ _ _ _ _ _ _ (c .before .before .before .before .before .before .put .ensures) (c .before .before .put-send .ensures) b)
     (λ c κs. let s = c .before .before .before in let d = s .pre .1 .0 in
-    (d .known, d .listed))
+    (d .known, (d .listed, c .if1 .left)))
     (λ c κs. let s = c .before .before .before .before .before in let q = s .args .t1 in let d = s .pre .1 .0 in let room = s .pre .1 .1 in
     let n = c .before .join-site .result in
     let b = more-bytes q _ _ (s .args .set) (s .args .t) _ d (c .before .before .if1 .left) (c .before .join-site .ensures) in
