@@ -105,9 +105,9 @@ fn bare_row(home: usize) -> [u64; 8]
     requires { ⌜ home < 8 ⌝ }
     ensures { λ r. ⌜ Row r (bareAt home) 8 ⌝ }
 {
-    let mut row = [NONE; 8];
-    row[home] = 0;
-    row
+    let mut bare = [NONE; 8];
+    bare[home] = 0;
+    bare
 }
 
 // What a subquery has cost at each site where it can start from: the home of one relation, else the sites where it is joined.
