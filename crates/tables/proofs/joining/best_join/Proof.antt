@@ -10,12 +10,6 @@ use mathlib.Core.Path.{_≡_}
 use native.Mathlib.Omega.{arith}
 use Rattle.tables.proofs.joining.best_join.Statement.{statement}
 use Rattle.tables.proofs.joining.best_join.Tie as tie
-use Rattle.tables.proofs.joining.best_join.Reads as reads
-use Rattle.tables.proofs.joining.best_join.Lts as lts
-use Rattle.relations.proofs.bit.Reads as bit-reads
-use Rattle.tables.proofs.cells.better.Reads as better-reads
-use Rattle.tables.proofs.splitting.split_of.Reads as split-of-reads
-use Rattle.tables.proofs.splitting.trial.Reads as trial-reads
 
 abbrev Inv-loop : tie.InvT-loop
 Inv-loop work sides first second home index sizes fixed rate count set k best₀ e₀ best e = (e ≤ count) × ChoiceOf (joinTrial (lent work sides first second home index sizes fixed rate) set k) e best
@@ -23,121 +17,38 @@ Inv-loop work sides first second home index sizes fixed rate count set k best₀
 abbrev μ-loop : tie.MeasureT-loop
 μ-loop work sides first second home index sizes fixed rate count set k best₀ e₀ best e = count - e
 
--- src/joins.rt:109:5
-loop-holds : tie.Need-loop-holds Inv-loop μ-loop
-loop-holds c = search (needs, choice-none)
-
--- src/joins.rt:110:21
-mul-bit : tie.Need-mul-bit Inv-loop μ-loop
-mul-bit c = search needs
-
--- src/joins.rt:110:21
-element-copy-out-bit : tie.Need-element-copy-out-bit Inv-loop μ-loop
-element-copy-out-bit c = search needs
-
--- src/joins.rt:110:12
-bit-requires : tie.Need-bit-requires Inv-loop μ-loop
-bit-requires c κs = search needs
-
--- src/joins.rt:110:42
-mul-bit-2 : tie.Need-mul-bit-2 Inv-loop μ-loop
-mul-bit-2 c = search needs
-
--- src/joins.rt:110:42
-element-copy-out-bit-2 : tie.Need-element-copy-out-bit-2 Inv-loop μ-loop
-element-copy-out-bit-2 c = search needs
-
--- src/joins.rt:110:33
-bit-requires-2 : tie.Need-bit-requires-2 Inv-loop μ-loop
-bit-requires-2 c κs = search needs
-
--- src/joins.rt:110:12
-add-if1 : tie.Need-add-if1 Inv-loop μ-loop
-add-if1 c = search needs
-
--- src/joins.rt:111:65
-mul-split-of : tie.Need-mul-split-of Inv-loop μ-loop
-mul-split-of c = search needs
-
--- src/joins.rt:111:65
-element-copy-out-split-of : tie.Need-element-copy-out-split-of Inv-loop μ-loop
-element-copy-out-split-of c = search needs
-
--- src/joins.rt:111:17
-split-of-requires : tie.Need-split-of-requires Inv-loop μ-loop
-split-of-requires c κs = (and-le-l _ _, search needs)
-
--- src/joins.rt:112:27
-trial-requires : tie.Need-trial-requires Inv-loop μ-loop
-trial-requires c κs =
-    let s = c .before .before .before .before .before .before .before .before .before .before in
-    let l = lent (s .args .work .now) (s .args .sides .now) (s .args .first .now) (s .args .second .now) (s .args .home .now) (s .args .index .now) (s .args .sizes .now) (s .args .fixed .now) (s .args .rate .now) in
-    let i = join-in l (s .args .set) (c .before .before .before .before .before .before .before .before .loop .e) _ _ (c .before .before .before .before .before .bit .ensures .0) (c .before .before .before .bit2 .ensures .0) (c .before .before .if1 .taken) in
-    join-triable l (s .args .set) (c .before .before .before .before .before .before .before .before .loop .e) _ _ _ (s .pre) (c .before .before .before .before .before .before .before .loop-test .taken) i (c .split-of .ensures) (s .args .k) (omega arith)
-
--- src/joins.rt:112:13
-better-requires : tie.Need-better-requires Inv-loop μ-loop
-better-requires c κs = search needs
-
--- src/joins.rt:113:13
-add-e : tie.Need-add-e Inv-loop μ-loop
-add-e c = search needs
-
--- src/joins.rt:109:5
-loop-less : tie.Need-loop-less Inv-loop μ-loop
-loop-less c = search needs
-
--- src/joins.rt:109:5
-loop-again : tie.Need-loop-again Inv-loop μ-loop
-loop-again c =
-    let s = c .before .before .before .before .before .before .before .before .before .before .before .before in
-    let l = lent (s .args .work .now) (s .args .sides .now) (s .args .first .now) (s .args .second .now) (s .args .home .now) (s .args .index .now) (s .args .sizes .now) (s .args .fixed .now) (s .args .rate .now) in
-    let i = join-in l (s .args .set) (c .before .before .before .before .before .before .before .before .before .before .loop .e) _ _ (c .before .before .before .before .before .before .before .bit .ensures .0) (c .before .before .before .before .before .bit2 .ensures .0) (c .before .before .before .before .if1 .taken) in
-    (omega (arith, c .before .before .before .before .before .before .before .before .before .loop-test .taken), join-better l (s .args .set) _ (c .before .before .before .before .before .before .before .before .before .before .loop .e) _ _ _ _ (c .before .before .before .before .before .before .before .before .before .before .loop .inv .1) i (c .before .before .split-of .ensures) (c .before .trial .ensures) (c .better .ensures))
-
--- src/joins.rt:116:9
-add-e-2 : tie.Need-add-e-2 Inv-loop μ-loop
-add-e-2 c = search needs
-
--- src/joins.rt:109:5
-loop-less-2 : tie.Need-loop-less-2 Inv-loop μ-loop
-loop-less-2 c = search needs
-
--- src/joins.rt:109:5
-loop-again-2 : tie.Need-loop-again-2 Inv-loop μ-loop
-loop-again-2 c =
-    let s = c .before .before .before .before .before .before .before .before in
-    let l = lent (s .args .work .now) (s .args .sides .now) (s .args .first .now) (s .args .second .now) (s .args .home .now) (s .args .index .now) (s .args .sizes .now) (s .args .fixed .now) (s .args .rate .now) in
-    let i = join-out l (s .args .set) (c .before .before .before .before .before .before .loop .e) _ _ (c .before .before .before .bit .ensures .0) (c .before .bit2 .ensures .0) (c .if1 .left) in
-    (search needs, join-worse l (s .args .set) _ (c .before .before .before .before .before .before .loop .e) _ (c .before .before .before .before .before .before .loop .inv .1) i)
-
--- src/joins.rt:87:1
-returns : tie.Need-returns Inv-loop μ-loop
-returns c = search (needs, choice-at)
-
 pub best-join-spec : {M : Type 1} → statement M
 best-join-spec =
     tie.close
     (tie.spec
     Inv-loop
     μ-loop
-    loop-holds
-    mul-bit
-    element-copy-out-bit
-    bit-requires
-    mul-bit-2
-    element-copy-out-bit-2
-    bit-requires-2
-    add-if1
-    mul-split-of
-    element-copy-out-split-of
-    split-of-requires
-    trial-requires
-    better-requires
-    add-e
-    loop-less
-    loop-again
-    add-e-2
-    loop-less-2
-    loop-again-2
-    returns)
+    (λ c. search (needs, choice-none))
+    (λ c. search needs)
+    (λ c. search needs)
+    (λ c κs. search needs)
+    (λ c. search needs)
+    (λ c. search needs)
+    (λ c κs. search needs)
+    (λ c. search needs)
+    (λ c. search needs)
+    (λ c. search needs)
+    (λ c κs. (and-le-l _ _, search needs))
+    (λ c κs. let s = c .before .before .before .before .before .before .before .before .before .before in
+    let l = lent (s .args .work .now) (s .args .sides .now) (s .args .first .now) (s .args .second .now) (s .args .home .now) (s .args .index .now) (s .args .sizes .now) (s .args .fixed .now) (s .args .rate .now) in
+    let i = join-in l (s .args .set) (c .before .before .before .before .before .before .before .before .loop .e) _ _ (c .before .before .before .before .before .bit .ensures .0) (c .before .before .before .bit2 .ensures .0) (c .before .before .if1 .taken) in
+    join-triable l (s .args .set) (c .before .before .before .before .before .before .before .before .loop .e) _ _ _ (s .pre) (c .before .before .before .before .before .before .before .loop-test .taken) i (c .split-of .ensures) (s .args .k) (omega arith))
+    (λ c κs. search needs)
+    (λ c. search needs)
+    (λ c. search needs)
+    (λ c. let s = c .before .before .before .before .before .before .before .before .before .before .before .before in
+    let l = lent (s .args .work .now) (s .args .sides .now) (s .args .first .now) (s .args .second .now) (s .args .home .now) (s .args .index .now) (s .args .sizes .now) (s .args .fixed .now) (s .args .rate .now) in
+    let i = join-in l (s .args .set) (c .before .before .before .before .before .before .before .before .before .before .loop .e) _ _ (c .before .before .before .before .before .before .before .bit .ensures .0) (c .before .before .before .before .before .bit2 .ensures .0) (c .before .before .before .before .if1 .taken) in
+    (omega (arith, c .before .before .before .before .before .before .before .before .before .loop-test .taken), join-better l (s .args .set) _ (c .before .before .before .before .before .before .before .before .before .before .loop .e) _ _ _ _ (c .before .before .before .before .before .before .before .before .before .before .loop .inv .1) i (c .before .before .split-of .ensures) (c .before .trial .ensures) (c .better .ensures)))
+    (λ c. search needs)
+    (λ c. search needs)
+    (λ c. let s = c .before .before .before .before .before .before .before .before in
+    let l = lent (s .args .work .now) (s .args .sides .now) (s .args .first .now) (s .args .second .now) (s .args .home .now) (s .args .index .now) (s .args .sizes .now) (s .args .fixed .now) (s .args .rate .now) in
+    let i = join-out l (s .args .set) (c .before .before .before .before .before .before .loop .e) _ _ (c .before .before .before .bit .ensures .0) (c .before .bit2 .ensures .0) (c .if1 .left) in
+    (search needs, join-worse l (s .args .set) _ (c .before .before .before .before .before .before .loop .e) _ (c .before .before .before .before .before .before .loop .inv .1) i))
+    (λ c. search (needs, choice-at)))

@@ -61,363 +61,6 @@ write-joined-below t =
     (falls 2 write-joined-kinds.ps _<_ μ-write-joined t)
     write-joined.Pre
 
--- src/writing.rt:98:13
-write-delivered-home-of-requires : (t : ℕ) → write-delivered-lts.Need-home-of-requires (
-  home-of-reads.Asked,
-  home-of-reads.Learnt,
-  only-reads.Asked,
-  only-reads.Learnt,
-  put-reads.Asked,
-  put-reads.Learnt,
-  put-send-reads.Asked,
-  put-send-reads.Learnt,
-  join-site-reads.Asked,
-  join-site-reads.Learnt,
-  write-joined-below t,
-  write-joined.Post,
-) (write-delivered-at t) write-delivered.Post
-write-delivered-home-of-requires t c κs =
-    let s = c .before .before .before .before .before in let q = s .args .t1 in let d = s .pre .1 .0 in let room = s .pre .1 .1 in
-    (c .before .before .if1 .taken, set-low q (d .known .valid) _ (low q _ _ _ (d .known)))
-
--- src/writing.rt:99:42
-write-delivered-only-requires : (t : ℕ) → write-delivered-lts.Need-only-requires (
-  home-of-reads.Asked,
-  home-of-reads.Learnt,
-  only-reads.Asked,
-  only-reads.Learnt,
-  put-reads.Asked,
-  put-reads.Learnt,
-  put-send-reads.Asked,
-  put-send-reads.Learnt,
-  join-site-reads.Asked,
-  join-site-reads.Learnt,
-  write-joined-below t,
-  write-joined.Post,
-) (write-delivered-at t) write-delivered.Post
-write-delivered-only-requires t c κs =
-    let s = c .before .before .before .before .before .before .before in let q = s .args .t1 in let d = s .pre .1 .0 in let room = s .pre .1 .1 in
-    (c .before .before .before .before .if1 .taken, set-low q (d .known .valid) _ (low q _ _ _ (d .known)))
-
--- src/writing.rt:99:13
-write-delivered-put-requires : (t : ℕ) → write-delivered-lts.Need-put-requires (
-  home-of-reads.Asked,
-  home-of-reads.Learnt,
-  only-reads.Asked,
-  only-reads.Learnt,
-  put-reads.Asked,
-  put-reads.Learnt,
-  put-send-reads.Asked,
-  put-send-reads.Learnt,
-  join-site-reads.Asked,
-  join-site-reads.Learnt,
-  write-joined-below t,
-  write-joined.Post,
-) (write-delivered-at t) write-delivered.Post
-write-delivered-put-requires t c κs =
-    let s = c .before .before .before .before .before .before .before .before in let q = s .args .t1 in let d = s .pre .1 .0 in let room = s .pre .1 .1 in
-    let b = one-bytes q _ _ (s .args .set) (s .args .t) _ _ d (c .before .before .before .before .before .if1 .taken) (c .only .ensures .0) (c .before .before .home-of .ensures) in
-    (room-first (s .args .out .now) (1 ∷ (c .only .result ∷ [])) (stepBytes (sendIfDue (c .before .before .home-of .result) (s .args .t))) _ _ b room, omega (arith, c .only .ensures .1))
-
--- src/writing.rt:100:9
-write-delivered-put-send-requires : (t : ℕ) → write-delivered-lts.Need-put-send-requires (
-  home-of-reads.Asked,
-  home-of-reads.Learnt,
-  only-reads.Asked,
-  only-reads.Learnt,
-  put-reads.Asked,
-  put-reads.Learnt,
-  put-send-reads.Asked,
-  put-send-reads.Learnt,
-  join-site-reads.Asked,
-  join-site-reads.Learnt,
-  write-joined-below t,
-  write-joined.Post,
-) (write-delivered-at t) write-delivered.Post
-write-delivered-put-send-requires t c κs =
-    let s = c .before .before .before .before .before .before .before .before .before .before .before .before in let q = s .args .t1 in let d = s .pre .1 .0 in let room = s .pre .1 .1 in
-    let b = one-bytes q _ _ (s .args .set) (s .args .t) _ _ d (c .before .before .before .before .before .before .before .before .before .if1 .taken) (c .before .before .before .before .only .ensures .0) (c .before .before .before .before .before .before .home-of .ensures) in
-    (room-next _ _ _ _ _ _ _ b room (c .before .before .before .put .ensures), omega (arith, d .listed, d .known .valid .sites-most))
-
--- src/writing.rt:100:9
-write-delivered-same-length : (t : ℕ) → write-delivered-lts.Need-same-length (
-  home-of-reads.Asked,
-  home-of-reads.Learnt,
-  only-reads.Asked,
-  only-reads.Learnt,
-  put-reads.Asked,
-  put-reads.Learnt,
-  put-send-reads.Asked,
-  put-send-reads.Learnt,
-  join-site-reads.Asked,
-  join-site-reads.Learnt,
-  write-joined-below t,
-  write-joined.Post,
-) (write-delivered-at t) write-delivered.Post
-write-delivered-same-length t c = search needs
-
--- src/writing.rt:100:9
-write-delivered-returns : (t : ℕ) → write-delivered-lts.Need-returns (
-  home-of-reads.Asked,
-  home-of-reads.Learnt,
-  only-reads.Asked,
-  only-reads.Learnt,
-  put-reads.Asked,
-  put-reads.Learnt,
-  put-send-reads.Asked,
-  put-send-reads.Learnt,
-  join-site-reads.Asked,
-  join-site-reads.Learnt,
-  write-joined-below t,
-  write-joined.Post,
-) (write-delivered-at t) write-delivered.Post
-write-delivered-returns t c =
-    let s = c .before .before .before .before .before .before .before .before .before .before .before .before .before .before .before in let q = s .args .t1 in let d = s .pre .1 .0 in let room = s .pre .1 .1 in
-    let b = one-bytes q _ _ (s .args .set) (s .args .t) _ _ d (c .before .before .before .before .before .before .before .before .before .before .before .before .if1 .taken) (c .before .before .before .before .before .before .before .only .ensures .0) (c .before .before .before .before .before .before .before .before .before .home-of .ensures) in
-    wrote-then _ _ _ _ _ _ _ _ _ (c .before .before .before .before .before .before .put .ensures) (c .before .before .put-send .ensures) b
-
--- src/writing.rt:102:9
-write-delivered-join-site-requires : (t : ℕ) → write-delivered-lts.Need-join-site-requires (
-  home-of-reads.Asked,
-  home-of-reads.Learnt,
-  only-reads.Asked,
-  only-reads.Learnt,
-  put-reads.Asked,
-  put-reads.Learnt,
-  put-send-reads.Asked,
-  put-send-reads.Learnt,
-  join-site-reads.Asked,
-  join-site-reads.Learnt,
-  write-joined-below t,
-  write-joined.Post,
-) (write-delivered-at t) write-delivered.Post
-write-delivered-join-site-requires t c κs =
-    let s = c .before .before .before in let q = s .args .t1 in let d = s .pre .1 .0 in let room = s .pre .1 .1 in
-    (d .known, d .listed)
-
--- src/writing.rt:103:9
-write-delivered-write-joined-requires : (t : ℕ) → write-delivered-lts.Need-write-joined-requires (
-  home-of-reads.Asked,
-  home-of-reads.Learnt,
-  only-reads.Asked,
-  only-reads.Learnt,
-  put-reads.Asked,
-  put-reads.Learnt,
-  put-send-reads.Asked,
-  put-send-reads.Learnt,
-  join-site-reads.Asked,
-  join-site-reads.Learnt,
-  write-joined-below t,
-  write-joined.Post,
-) (write-delivered-at t) write-delivered.Post
-write-delivered-write-joined-requires t c κs =
-    let s = c .before .before .before .before .before in let q = s .args .t1 in let d = s .pre .1 .0 in let room = s .pre .1 .1 in
-    let n = c .before .join-site .result in
-    let b = more-bytes q _ _ (s .args .set) (s .args .t) _ d (c .before .before .if1 .left) (c .before .join-site .ensures) in
-    (omega (arith, s .pre .0), (more-join q _ _ (s .args .set) (s .args .t) _ d (c .before .before .if1 .left) (c .before .join-site .ensures), room-first (s .args .out .now) (stepBytes (writtenJoined _+_ q (s .args .set) n)) (stepBytes (sendIfDue n (s .args .t))) _ _ b room))
-
--- src/writing.rt:104:5
-write-delivered-put-send-requires-2 : (t : ℕ) → write-delivered-lts.Need-put-send-requires-2 (
-  home-of-reads.Asked,
-  home-of-reads.Learnt,
-  only-reads.Asked,
-  only-reads.Learnt,
-  put-reads.Asked,
-  put-reads.Learnt,
-  put-send-reads.Asked,
-  put-send-reads.Learnt,
-  join-site-reads.Asked,
-  join-site-reads.Learnt,
-  write-joined-below t,
-  write-joined.Post,
-) (write-delivered-at t) write-delivered.Post
-write-delivered-put-send-requires-2 t c κs =
-    let s = c .before .before .before .before .before .before .before .before .before in let q = s .args .t1 in let d = s .pre .1 .0 in let room = s .pre .1 .1 in
-    let n = c .before .before .before .before .before .join-site .result in
-    let b = more-bytes q _ _ (s .args .set) (s .args .t) _ d (c .before .before .before .before .before .before .if1 .left) (c .before .before .before .before .before .join-site .ensures) in
-    (room-next _ _ _ _ _ _ _ b room (c .before .before .before .write-joined .ensures), omega (arith, d .listed, d .known .valid .sites-most))
-
--- src/writing.rt:92:1
-write-delivered-same-length-2 : (t : ℕ) → write-delivered-lts.Need-same-length-2 (
-  home-of-reads.Asked,
-  home-of-reads.Learnt,
-  only-reads.Asked,
-  only-reads.Learnt,
-  put-reads.Asked,
-  put-reads.Learnt,
-  put-send-reads.Asked,
-  put-send-reads.Learnt,
-  join-site-reads.Asked,
-  join-site-reads.Learnt,
-  write-joined-below t,
-  write-joined.Post,
-) (write-delivered-at t) write-delivered.Post
-write-delivered-same-length-2 t c = search needs
-
--- src/writing.rt:92:1
-write-delivered-returns-2 : (t : ℕ) → write-delivered-lts.Need-returns-2 (
-  home-of-reads.Asked,
-  home-of-reads.Learnt,
-  only-reads.Asked,
-  only-reads.Learnt,
-  put-reads.Asked,
-  put-reads.Learnt,
-  put-send-reads.Asked,
-  put-send-reads.Learnt,
-  join-site-reads.Asked,
-  join-site-reads.Learnt,
-  write-joined-below t,
-  write-joined.Post,
-) (write-delivered-at t) write-delivered.Post
-write-delivered-returns-2 t c =
-    let s = c .before .before .before .before .before .before .before .before .before .before .before .before in let q = s .args .t1 in let d = s .pre .1 .0 in let room = s .pre .1 .1 in
-    let n = c .before .before .before .before .before .before .before .before .join-site .result in
-    let b = more-bytes q _ _ (s .args .set) (s .args .t) _ d (c .before .before .before .before .before .before .before .before .before .if1 .left) (c .before .before .before .before .before .before .before .before .join-site .ensures) in
-    wrote-then _ _ _ _ _ _ _ _ _ (c .before .before .before .before .before .before .write-joined .ensures) (c .before .before .put-send2 .ensures) b
-
--- src/writing.rt:113:9
-write-joined-last-join-requires : (t : ℕ) → write-joined-lts.Need-last-join-requires (
-  last-join-reads.Asked,
-  last-join-reads.Learnt,
-  write-delivered-below t,
-  write-delivered.Post,
-  put-reads.Asked,
-  put-reads.Learnt,
-) (write-joined-at t) write-joined.Post
-write-joined-last-join-requires t c κs =
-    let s = c .before .before in let q = s .args .q in let j = s .pre .1 .0 in let room = s .pre .1 .1 in
-    (j .known, j .listed)
-
--- src/writing.rt:114:22
-write-joined-mul-part : (t : ℕ) → write-joined-lts.Need-mul-part (
-  last-join-reads.Asked,
-  last-join-reads.Learnt,
-  write-delivered-below t,
-  write-delivered.Post,
-  put-reads.Asked,
-  put-reads.Learnt,
-) (write-joined-at t) write-joined.Post
-write-joined-mul-part t c =
-    let s = c .before .before .before in let q = s .args .q in let j = s .pre .1 .0 in let room = s .pre .1 .1 in
-    let e = c .last-join .result in let part = bitAnd (s .args .set) (getD (s .args .t2) e 0) in
-    let x = stepBytes (writtenDelivered _+_ q part (s .args .k)) in let y = stepBytes (writtenDelivered _+_ q (s .args .set - part) (s .args .k)) in let z : List ℕ = 3 ∷ (e ∷ []) in
-    let p = parted q _ _ (s .args .set) (s .args .k) _ j (c .last-join .ensures) in
-    omega (arith, p .join-low)
-
--- src/writing.rt:114:22
-write-joined-array-read-part : (t : ℕ) → write-joined-lts.Need-array-read-part (
-  last-join-reads.Asked,
-  last-join-reads.Learnt,
-  write-delivered-below t,
-  write-delivered.Post,
-  put-reads.Asked,
-  put-reads.Learnt,
-) (write-joined-at t) write-joined.Post
-write-joined-array-read-part t c =
-    let s = c .before .before .before in let q = s .args .q in let j = s .pre .1 .0 in let room = s .pre .1 .1 in
-    let e = c .last-join .result in let part = bitAnd (s .args .set) (getD (s .args .t2) e 0) in
-    let x = stepBytes (writtenDelivered _+_ q part (s .args .k)) in let y = stepBytes (writtenDelivered _+_ q (s .args .set - part) (s .args .k)) in let z : List ℕ = 3 ∷ (e ∷ []) in
-    let p = parted q _ _ (s .args .set) (s .args .k) _ j (c .last-join .ensures) in
-    p .join-low
-
--- src/writing.rt:115:9
-write-joined-write-delivered-requires : (t : ℕ) → write-joined-lts.Need-write-delivered-requires (
-  last-join-reads.Asked,
-  last-join-reads.Learnt,
-  write-delivered-below t,
-  write-delivered.Post,
-  put-reads.Asked,
-  put-reads.Learnt,
-) (write-joined-at t) write-joined.Post
-write-joined-write-delivered-requires t c κs =
-    let s = c .before .before .before .before in let q = s .args .q in let j = s .pre .1 .0 in let room = s .pre .1 .1 in
-    let e = c .before .last-join .result in let part = bitAnd (s .args .set) (getD (s .args .t2) e 0) in
-    let x = stepBytes (writtenDelivered _+_ q part (s .args .k)) in let y = stepBytes (writtenDelivered _+_ q (s .args .set - part) (s .args .k)) in let z : List ℕ = 3 ∷ (e ∷ []) in
-    let p = parted q _ _ (s .args .set) (s .args .k) _ j (c .before .last-join .ensures) in
-    (omega (arith, s .pre .0, p .first-fewer), (p .first, room-first (s .args .out .now) x (y ++ z) _ _ (p .bytes) room))
-
--- src/writing.rt:116:66
-write-joined-sub-write-delivered : (t : ℕ) → write-joined-lts.Need-sub-write-delivered (
-  last-join-reads.Asked,
-  last-join-reads.Learnt,
-  write-delivered-below t,
-  write-delivered.Post,
-  put-reads.Asked,
-  put-reads.Learnt,
-) (write-joined-at t) write-joined.Post
-write-joined-sub-write-delivered t c =
-    let s = c .before .before .before .before .before .before .before .before in let q = s .args .q in let j = s .pre .1 .0 in let room = s .pre .1 .1 in
-    let e = c .before .before .before .before .before .last-join .result in let part = bitAnd (s .args .set) (getD (s .args .t2) e 0) in
-    let x = stepBytes (writtenDelivered _+_ q part (s .args .k)) in let y = stepBytes (writtenDelivered _+_ q (s .args .set - part) (s .args .k)) in let z : List ℕ = 3 ∷ (e ∷ []) in
-    let p = parted q _ _ (s .args .set) (s .args .k) _ j (c .before .before .before .before .before .last-join .ensures) in
-    p .within
-
--- src/writing.rt:116:9
-write-joined-write-delivered-requires-2 :
-    (t : ℕ) → write-joined-lts.Need-write-delivered-requires-2 (
-      last-join-reads.Asked,
-      last-join-reads.Learnt,
-      write-delivered-below t,
-      write-delivered.Post,
-      put-reads.Asked,
-      put-reads.Learnt,
-    ) (write-joined-at t) write-joined.Post
-write-joined-write-delivered-requires-2 t c κs =
-    let s = c .before .before .before .before .before .before .before .before in let q = s .args .q in let j = s .pre .1 .0 in let room = s .pre .1 .1 in
-    let e = c .before .before .before .before .before .last-join .result in let part = bitAnd (s .args .set) (getD (s .args .t2) e 0) in
-    let x = stepBytes (writtenDelivered _+_ q part (s .args .k)) in let y = stepBytes (writtenDelivered _+_ q (s .args .set - part) (s .args .k)) in let z : List ℕ = 3 ∷ (e ∷ []) in
-    let p = parted q _ _ (s .args .set) (s .args .k) _ j (c .before .before .before .before .before .last-join .ensures) in
-    let first = c .before .before .before .write-delivered .ensures in
-    let room1 = room-next _ _ x (y ++ z) _ _ _ (p .bytes) room first in
-    (omega (arith, s .pre .0, p .second-fewer), (p .second, omega (arith, room1, length-append y z)))
-
--- src/writing.rt:117:5
-write-joined-put-requires : (t : ℕ) → write-joined-lts.Need-put-requires (
-  last-join-reads.Asked,
-  last-join-reads.Learnt,
-  write-delivered-below t,
-  write-delivered.Post,
-  put-reads.Asked,
-  put-reads.Learnt,
-) (write-joined-at t) write-joined.Post
-write-joined-put-requires t c κs =
-    let s = c .before .before .before .before .before .before .before .before .before .before .before .before in let q = s .args .q in let j = s .pre .1 .0 in let room = s .pre .1 .1 in
-    let e = c .before .before .before .before .before .before .before .before .before .last-join .result in let part = bitAnd (s .args .set) (getD (s .args .t2) e 0) in
-    let x = stepBytes (writtenDelivered _+_ q part (s .args .k)) in let y = stepBytes (writtenDelivered _+_ q (s .args .set - part) (s .args .k)) in let z : List ℕ = 3 ∷ (e ∷ []) in
-    let p = parted q _ _ (s .args .set) (s .args .k) _ j (c .before .before .before .before .before .before .before .before .before .last-join .ensures) in
-    let first = c .before .before .before .before .before .before .before .write-delivered .ensures in
-    let room1 = room-next _ _ x (y ++ z) _ _ _ (p .bytes) room first in
-    (room-next _ _ y z (y ++ z) _ _ refl room1 (c .before .before .before .write-delivered2 .ensures), omega (arith, p .join-low))
-
--- src/writing.rt:108:1
-write-joined-same-length : (t : ℕ) → write-joined-lts.Need-same-length (
-  last-join-reads.Asked,
-  last-join-reads.Learnt,
-  write-delivered-below t,
-  write-delivered.Post,
-  put-reads.Asked,
-  put-reads.Learnt,
-) (write-joined-at t) write-joined.Post
-write-joined-same-length t c = search needs
-
--- src/writing.rt:108:1
-write-joined-returns : (t : ℕ) → write-joined-lts.Need-returns (
-  last-join-reads.Asked,
-  last-join-reads.Learnt,
-  write-delivered-below t,
-  write-delivered.Post,
-  put-reads.Asked,
-  put-reads.Learnt,
-) (write-joined-at t) write-joined.Post
-write-joined-returns t c =
-    let s = c .before .before .before .before .before .before .before .before .before .before .before .before .before .before .before in let q = s .args .q in let j = s .pre .1 .0 in let room = s .pre .1 .1 in
-    let e = c .before .before .before .before .before .before .before .before .before .before .before .before .last-join .result in let part = bitAnd (s .args .set) (getD (s .args .t2) e 0) in
-    let x = stepBytes (writtenDelivered _+_ q part (s .args .k)) in let y = stepBytes (writtenDelivered _+_ q (s .args .set - part) (s .args .k)) in let z : List ℕ = 3 ∷ (e ∷ []) in
-    let p = parted q _ _ (s .args .set) (s .args .k) _ j (c .before .before .before .before .before .before .before .before .before .before .before .before .last-join .ensures) in
-    let first = c .before .before .before .before .before .before .before .before .before .before .write-delivered .ensures in
-    let room1 = room-next _ _ x (y ++ z) _ _ _ (p .bytes) room first in
-    wrote-then _ _ _ x (y ++ z) _ _ _ _ first (wrote-then _ _ _ y z (y ++ z) _ _ _ (c .before .before .before .before .before .before .write-delivered2 .ensures) (c .before .before .put .ensures) refl) (p .bytes)
-
 pub +write-delivered+write-joined-spec : {M : Type 1} → statement M
 +write-delivered+write-joined-spec =
     close μ-write-delivered μ-write-joined (λ t. write-delivered-lts.spec (
@@ -436,17 +79,35 @@ pub +write-delivered+write-joined-spec : {M : Type 1} → statement M
     )
     (write-delivered-at t)
     write-delivered.Post
-    (write-delivered-home-of-requires t)
-    (write-delivered-only-requires t)
-    (write-delivered-put-requires t)
-    (write-delivered-put-send-requires t)
-    (write-delivered-same-length t)
-    (write-delivered-returns t)
-    (write-delivered-join-site-requires t)
-    (write-delivered-write-joined-requires t)
-    (write-delivered-put-send-requires-2 t)
-    (write-delivered-same-length-2 t)
-    (write-delivered-returns-2 t))
+    (λ c κs. let s = c .before .before .before .before .before in let q = s .args .t1 in let d = s .pre .1 .0 in let room = s .pre .1 .1 in
+    (c .before .before .if1 .taken, set-low q (d .known .valid) _ (low q _ _ _ (d .known))))
+    (λ c κs. let s = c .before .before .before .before .before .before .before in let q = s .args .t1 in let d = s .pre .1 .0 in let room = s .pre .1 .1 in
+    (c .before .before .before .before .if1 .taken, set-low q (d .known .valid) _ (low q _ _ _ (d .known))))
+    (λ c κs. let s = c .before .before .before .before .before .before .before .before in let q = s .args .t1 in let d = s .pre .1 .0 in let room = s .pre .1 .1 in
+    let b = one-bytes q _ _ (s .args .set) (s .args .t) _ _ d (c .before .before .before .before .before .if1 .taken) (c .only .ensures .0) (c .before .before .home-of .ensures) in
+    (room-first (s .args .out .now) (1 ∷ (c .only .result ∷ [])) (stepBytes (sendIfDue (c .before .before .home-of .result) (s .args .t))) _ _ b room, omega (arith, c .only .ensures .1)))
+    (λ c κs. let s = c .before .before .before .before .before .before .before .before .before .before .before .before in let q = s .args .t1 in let d = s .pre .1 .0 in let room = s .pre .1 .1 in
+    let b = one-bytes q _ _ (s .args .set) (s .args .t) _ _ d (c .before .before .before .before .before .before .before .before .before .if1 .taken) (c .before .before .before .before .only .ensures .0) (c .before .before .before .before .before .before .home-of .ensures) in
+    (room-next _ _ _ _ _ _ _ b room (c .before .before .before .put .ensures), omega (arith, d .listed, d .known .valid .sites-most)))
+    (λ c. search needs)
+    (λ c. let s = c .before .before .before .before .before .before .before .before .before .before .before .before .before .before .before in let q = s .args .t1 in let d = s .pre .1 .0 in let room = s .pre .1 .1 in
+    let b = one-bytes q _ _ (s .args .set) (s .args .t) _ _ d (c .before .before .before .before .before .before .before .before .before .before .before .before .if1 .taken) (c .before .before .before .before .before .before .before .only .ensures .0) (c .before .before .before .before .before .before .before .before .before .home-of .ensures) in
+    wrote-then _ _ _ _ _ _ _ _ _ (c .before .before .before .before .before .before .put .ensures) (c .before .before .put-send .ensures) b)
+    (λ c κs. let s = c .before .before .before in let q = s .args .t1 in let d = s .pre .1 .0 in let room = s .pre .1 .1 in
+    (d .known, d .listed))
+    (λ c κs. let s = c .before .before .before .before .before in let q = s .args .t1 in let d = s .pre .1 .0 in let room = s .pre .1 .1 in
+    let n = c .before .join-site .result in
+    let b = more-bytes q _ _ (s .args .set) (s .args .t) _ d (c .before .before .if1 .left) (c .before .join-site .ensures) in
+    (omega (arith, s .pre .0), (more-join q _ _ (s .args .set) (s .args .t) _ d (c .before .before .if1 .left) (c .before .join-site .ensures), room-first (s .args .out .now) (stepBytes (writtenJoined _+_ q (s .args .set) n)) (stepBytes (sendIfDue n (s .args .t))) _ _ b room)))
+    (λ c κs. let s = c .before .before .before .before .before .before .before .before .before in let q = s .args .t1 in let d = s .pre .1 .0 in let room = s .pre .1 .1 in
+    let n = c .before .before .before .before .before .join-site .result in
+    let b = more-bytes q _ _ (s .args .set) (s .args .t) _ d (c .before .before .before .before .before .before .if1 .left) (c .before .before .before .before .before .join-site .ensures) in
+    (room-next _ _ _ _ _ _ _ b room (c .before .before .before .write-joined .ensures), omega (arith, d .listed, d .known .valid .sites-most)))
+    (λ c. search needs)
+    (λ c. let s = c .before .before .before .before .before .before .before .before .before .before .before .before in let q = s .args .t1 in let d = s .pre .1 .0 in let room = s .pre .1 .1 in
+    let n = c .before .before .before .before .before .before .before .before .join-site .result in
+    let b = more-bytes q _ _ (s .args .set) (s .args .t) _ d (c .before .before .before .before .before .before .before .before .before .if1 .left) (c .before .before .before .before .before .before .before .before .join-site .ensures) in
+    wrote-then _ _ _ _ _ _ _ _ _ (c .before .before .before .before .before .before .write-joined .ensures) (c .before .before .put-send2 .ensures) b))
     λ t. write-joined-lts.spec (
       last-join-reads.Asked,
       last-join-reads.Learnt,
@@ -457,12 +118,47 @@ pub +write-delivered+write-joined-spec : {M : Type 1} → statement M
     )
     (write-joined-at t)
     write-joined.Post
-    (write-joined-last-join-requires t)
-    (write-joined-mul-part t)
-    (write-joined-array-read-part t)
-    (write-joined-write-delivered-requires t)
-    (write-joined-sub-write-delivered t)
-    (write-joined-write-delivered-requires-2 t)
-    (write-joined-put-requires t)
-    (write-joined-same-length t)
-    (write-joined-returns t)
+    (λ c κs. let s = c .before .before in let q = s .args .q in let j = s .pre .1 .0 in let room = s .pre .1 .1 in
+    (j .known, j .listed))
+    (λ c. let s = c .before .before .before in let q = s .args .q in let j = s .pre .1 .0 in let room = s .pre .1 .1 in
+    let e = c .last-join .result in let part = bitAnd (s .args .set) (getD (s .args .t2) e 0) in
+    let x = stepBytes (writtenDelivered _+_ q part (s .args .k)) in let y = stepBytes (writtenDelivered _+_ q (s .args .set - part) (s .args .k)) in let z : List ℕ = 3 ∷ (e ∷ []) in
+    let p = parted q _ _ (s .args .set) (s .args .k) _ j (c .last-join .ensures) in
+    omega (arith, p .join-low))
+    (λ c. let s = c .before .before .before in let q = s .args .q in let j = s .pre .1 .0 in let room = s .pre .1 .1 in
+    let e = c .last-join .result in let part = bitAnd (s .args .set) (getD (s .args .t2) e 0) in
+    let x = stepBytes (writtenDelivered _+_ q part (s .args .k)) in let y = stepBytes (writtenDelivered _+_ q (s .args .set - part) (s .args .k)) in let z : List ℕ = 3 ∷ (e ∷ []) in
+    let p = parted q _ _ (s .args .set) (s .args .k) _ j (c .last-join .ensures) in
+    p .join-low)
+    (λ c κs. let s = c .before .before .before .before in let q = s .args .q in let j = s .pre .1 .0 in let room = s .pre .1 .1 in
+    let e = c .before .last-join .result in let part = bitAnd (s .args .set) (getD (s .args .t2) e 0) in
+    let x = stepBytes (writtenDelivered _+_ q part (s .args .k)) in let y = stepBytes (writtenDelivered _+_ q (s .args .set - part) (s .args .k)) in let z : List ℕ = 3 ∷ (e ∷ []) in
+    let p = parted q _ _ (s .args .set) (s .args .k) _ j (c .before .last-join .ensures) in
+    (omega (arith, s .pre .0, p .first-fewer), (p .first, room-first (s .args .out .now) x (y ++ z) _ _ (p .bytes) room)))
+    (λ c. let s = c .before .before .before .before .before .before .before .before in let q = s .args .q in let j = s .pre .1 .0 in let room = s .pre .1 .1 in
+    let e = c .before .before .before .before .before .last-join .result in let part = bitAnd (s .args .set) (getD (s .args .t2) e 0) in
+    let x = stepBytes (writtenDelivered _+_ q part (s .args .k)) in let y = stepBytes (writtenDelivered _+_ q (s .args .set - part) (s .args .k)) in let z : List ℕ = 3 ∷ (e ∷ []) in
+    let p = parted q _ _ (s .args .set) (s .args .k) _ j (c .before .before .before .before .before .last-join .ensures) in
+    p .within)
+    (λ c κs. let s = c .before .before .before .before .before .before .before .before in let q = s .args .q in let j = s .pre .1 .0 in let room = s .pre .1 .1 in
+    let e = c .before .before .before .before .before .last-join .result in let part = bitAnd (s .args .set) (getD (s .args .t2) e 0) in
+    let x = stepBytes (writtenDelivered _+_ q part (s .args .k)) in let y = stepBytes (writtenDelivered _+_ q (s .args .set - part) (s .args .k)) in let z : List ℕ = 3 ∷ (e ∷ []) in
+    let p = parted q _ _ (s .args .set) (s .args .k) _ j (c .before .before .before .before .before .last-join .ensures) in
+    let first = c .before .before .before .write-delivered .ensures in
+    let room1 = room-next _ _ x (y ++ z) _ _ _ (p .bytes) room first in
+    (omega (arith, s .pre .0, p .second-fewer), (p .second, omega (arith, room1, length-append y z))))
+    (λ c κs. let s = c .before .before .before .before .before .before .before .before .before .before .before .before in let q = s .args .q in let j = s .pre .1 .0 in let room = s .pre .1 .1 in
+    let e = c .before .before .before .before .before .before .before .before .before .last-join .result in let part = bitAnd (s .args .set) (getD (s .args .t2) e 0) in
+    let x = stepBytes (writtenDelivered _+_ q part (s .args .k)) in let y = stepBytes (writtenDelivered _+_ q (s .args .set - part) (s .args .k)) in let z : List ℕ = 3 ∷ (e ∷ []) in
+    let p = parted q _ _ (s .args .set) (s .args .k) _ j (c .before .before .before .before .before .before .before .before .before .last-join .ensures) in
+    let first = c .before .before .before .before .before .before .before .write-delivered .ensures in
+    let room1 = room-next _ _ x (y ++ z) _ _ _ (p .bytes) room first in
+    (room-next _ _ y z (y ++ z) _ _ refl room1 (c .before .before .before .write-delivered2 .ensures), omega (arith, p .join-low)))
+    (λ c. search needs)
+    (λ c. let s = c .before .before .before .before .before .before .before .before .before .before .before .before .before .before .before in let q = s .args .q in let j = s .pre .1 .0 in let room = s .pre .1 .1 in
+    let e = c .before .before .before .before .before .before .before .before .before .before .before .before .last-join .result in let part = bitAnd (s .args .set) (getD (s .args .t2) e 0) in
+    let x = stepBytes (writtenDelivered _+_ q part (s .args .k)) in let y = stepBytes (writtenDelivered _+_ q (s .args .set - part) (s .args .k)) in let z : List ℕ = 3 ∷ (e ∷ []) in
+    let p = parted q _ _ (s .args .set) (s .args .k) _ j (c .before .before .before .before .before .before .before .before .before .before .before .before .last-join .ensures) in
+    let first = c .before .before .before .before .before .before .before .before .before .before .write-delivered .ensures in
+    let room1 = room-next _ _ x (y ++ z) _ _ _ (p .bytes) room first in
+    wrote-then _ _ _ x (y ++ z) _ _ _ _ first (wrote-then _ _ _ y z (y ++ z) _ _ _ (c .before .before .before .before .before .before .write-delivered2 .ensures) (c .before .before .put .ensures) refl) (p .bytes))

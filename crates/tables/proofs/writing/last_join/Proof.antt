@@ -4,19 +4,12 @@ use borrow.Author.Needs.{needs}
 use native.Mathlib.Omega.{arith}
 use Rattle.tables.proofs.writing.last_join.Statement.{statement}
 use Rattle.tables.proofs.writing.last_join.Tie as tie
-use Rattle.tables.proofs.writing.last_join.Reads as reads
-use Rattle.tables.proofs.writing.last_join.Lts as lts
-use Rattle.tables.proofs.joining.best_join.Reads as best-join-reads
-
--- src/writing.rt:75:5
-best-join-requires : tie.Need-best-join-requires
-best-join-requires c κs = let s = c .before .before .before .before .before .before .before .before .before .before in let q = s .args .t1 in let k = s .pre .0 in let v = k .valid in
-    joinable-at q _ _ _ k _ (s .pre .1)
-
--- src/writing.rt:71:1
-returns : tie.Need-returns
-returns c = let s = c .before .before .before .before .before .before .before .before .before .before .before in let q = s .args .t1 in let k = s .pre .0 in let v = k .valid in
-    join-is q _ _ _ k _ _ (s .pre .1) (c .best-join .ensures)
 
 pub last-join-spec : {M : Type 1} → statement M
-last-join-spec = tie.close (tie.spec best-join-requires returns)
+last-join-spec =
+    tie.close
+    (tie.spec
+    (λ c κs. let s = c .before .before .before .before .before .before .before .before .before .before in let q = s .args .t1 in let k = s .pre .0 in let v = k .valid in
+    joinable-at q _ _ _ k _ (s .pre .1))
+    (λ c. let s = c .before .before .before .before .before .before .before .before .before .before .before in let q = s .args .t1 in let k = s .pre .0 in let v = k .valid in
+    join-is q _ _ _ k _ _ (s .pre .1) (c .best-join .ensures)))

@@ -6,25 +6,12 @@ use native.Mathlib.Omega.{arith}
 use borrow.Author.Needs.{needs}
 use Rattle.tables.proofs.writing.put_send.Statement.{statement}
 use Rattle.tables.proofs.writing.put_send.Tie as tie
-use Rattle.tables.proofs.writing.put_send.Reads as reads
-use Rattle.tables.proofs.writing.put_send.Lts as lts
-use Rattle.tables.proofs.writing.put.Reads as put-reads
-
--- src/writing.rt:39:9
-returns : tie.Need-returns
-returns c = send-none _ _ _ _ (c .if1 .taken)
-
--- src/writing.rt:41:5
-put-requires : tie.Need-put-requires
-put-requires c κs = let s = c .before .before .before in (omega (arith, ap length (send-bytes (s .args .k) (s .args .t) (c .before .if1 .left)), s .pre .0), s .pre .1)
-
--- src/writing.rt:34:1
-same-length : tie.Need-same-length
-same-length c = search needs
-
--- src/writing.rt:34:1
-returns-2 : tie.Need-returns-2
-returns-2 c = let s = c .before .before .before .before .before .before in rw (send-bytes (s .args .k) (s .args .t) (c .before .before .before .before .if1 .left)) (c .before .before .put .ensures)
 
 pub put-send-spec : {M : Type 1} → statement M
-put-send-spec = tie.close (tie.spec returns put-requires same-length returns-2)
+put-send-spec =
+    tie.close
+    (tie.spec
+    (λ c. send-none _ _ _ _ (c .if1 .taken))
+    (λ c κs. let s = c .before .before .before in (omega (arith, ap length (send-bytes (s .args .k) (s .args .t) (c .before .if1 .left)), s .pre .0), s .pre .1))
+    (λ c. search needs)
+    (λ c. let s = c .before .before .before .before .before .before in rw (send-bytes (s .args .k) (s .args .t) (c .before .before .before .before .if1 .left)) (c .before .before .put .ensures)))
