@@ -1,4 +1,6 @@
 pub mod Prices
+pub mod Gives
+pub mod Ranges
 pub mod Valid
 pub mod Linked
 pub mod Indexed

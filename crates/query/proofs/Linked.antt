@@ -2,21 +2,10 @@
 use Prim.Native.Nat.{ℕ, _≤_}
 use Rattle.query.specs.declared.Query.{Query}
 use Rattle.query.specs.Decode.{Terms, withLine}
-use Rattle.query.specs.Query.{Valid, home}
-use Rattle.query.proofs.Valid.{Fair, LinesIn, with-line}
+use Rattle.query.specs.Query.{relined, Valid, home}
+use Rattle.query.proofs.Ranges.{Fair, LinesIn, with-line}
 
--- The query with the line from a to b replaced.
-abbrev pub linked : Query → ℕ → ℕ → Terms → Query
-linked q a b t = record {
-  sites = q .sites;
-  relations = q .relations;
-  joins = q .joins;
-  sizes = q .sizes;
-  lines = withLine a b (q .lines) t;
-  target = q .target;
-}
-
-pub linked-valid : (q : Query) → Valid q → (a b : ℕ) (t : Terms) → t .fixed ≤ 1_000_000 → t .rate ≤ 1_000 → Valid (linked q a b t)
+pub linked-valid : (q : Query) → Valid q → (a b : ℕ) (t : Terms) → t .fixed ≤ 1_000_000 → t .rate ≤ 1_000 → Valid (relined q a b t)
 unfolding home
 linked-valid q v a b t f r =
     let fair : Fair t = record { fixed-most = f; rate-most = r } in

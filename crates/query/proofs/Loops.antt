@@ -1,13 +1,12 @@
--- Items one after another: a loop over them has the definition's answer from where it stands, and what each item keeps they all keep.
-use Prim.Native.Nat.{ℕ, zero, suc, _+_, _-_, _≤_, _<_}
+-- Items one after another: a loop over them has the definition's answer from where it stands.
+use Prim.Native.Nat.{ℕ, suc, _+_, _-_, _≤_, _<_}
 use native.Mathlib.Numerals.{add-one}
 use native.Mathlib.Omega.{arith}
-use mathlib.Core.Path.{_≡_, sym, ap, subst, _∙_}
+use mathlib.Core.Path.{_≡_, sym, ap, _∙_}
 use mathlib.Core.List.{List}
 use lib.ListN.{drop}
 use lib.Seq.{drop-drop}
 use Rattle.query.specs.Fields.{Read, refused, value, andThen, items}
-use Rattle.query.proofs.Reading.{Both, both-read}
 
 one-fewer : (n i : ℕ) → i < n → n - i ≡ suc (n - (i + 1))
 one-fewer n i h = omega arith
@@ -46,15 +45,3 @@ module _ {A T : Type 0} (read : List ℕ → Read T) (store : A → T → A) (it
   stored-on t w next m e =
       let s : drop w p ≡ drop next l = ap (drop w) q ∙ drop-drop w at l ∙ ap (λ (k : ℕ). drop k l) (sym m) in
       items-on item answer n i a (drop at l) (store a t) (drop next l) so h (ap (item i a) (sym q) ∙ is ∙ rw (e, s))
-
--- What each item keeps of what has been read so far, the items keep.
-pub items-keep :
-    {A : Type 0} (item : ℕ → A → List ℕ → Read A) (P : A → Type 0) → ((i : ℕ) (a : A) (l : List ℕ) (b : A) (r : List ℕ) → item i a l ≡ value b r → P a → P b) →
-    (k i : ℕ) (a : A) (l : List ℕ) (b : A) (r : List ℕ) → items item k i a l ≡ value b r → P a → P b
-unfolding items
-items-keep item P one zero i a l b r e p =
-    let z : a ≡ b = cc in
-    subst P z p
-items-keep item P one (suc k) i a l b r e p =
-    let s : Both (item i a l) (λ b r. items item k (suc i) b r) b r = both-read _ _ b r e in
-    items-keep item P one k (suc i) (s .a) (s .mid) b r (s .then) (one i a l (s .a) (s .mid) (s .first) p)

@@ -1,17 +1,15 @@
 -- Readings of fields: what a field gives by its tests, and that what follows a field's value is the part behind its bytes.
 use Prim.Native.Nat.{ℕ, _≤_, _<_}
 use mathlib.Core.Path.{_≡_, refl, sym, ap, _∙_}
-use mathlib.Core.Bool.{Bool, true, false, _&&_}
 use mathlib.Core.List.{List, []}
 use native.Mathlib.Omega.{arith}
 use lib.ListN.{length, drop}
-use lib.Dec.{ltb, leb}
-use borrow.Author.Tests.{lt-ltb, le-ltb, le-leb, lt-leb, leb-true}
+use borrow.Author.Tests.{lt-ltb, le-ltb, le-leb, lt-leb}
 use Rattle.query.specs.declared.fields.Field.{Field}
 use Rattle.query.specs.declared.fields.Field.the-variants.{Value, Refused}
-use Rattle.query.specs.Choice.{pick}
-use Rattle.query.specs.Fields.{Read, refused, value, andThen, number, field}
+use Rattle.query.specs.Fields.{Read, refused, value, number, field, countField}
 use Rattle.query.specs.Code.{fieldOf, faultOf}
+use Rattle.query.proofs.Gives.{clash, field-cases, field-held}
 
 -- The four ways through a field.
 module _ (w fault low high : ℕ) (l : List ℕ) where
@@ -33,48 +31,16 @@ module _ (w fault low high : ℕ) (l : List ℕ) where
 
 pub ruleset judged = (field-cut, field-low, field-high, field-whole)
 
--- What holds of both of two values holds of the one picked.
-pub pick-all : {A : Type 0} (P : A → Type 0) (b : Bool) (x y : A) → (b ≡ true → P x) → (b ≡ false → P y) → P (pick b x y)
-pick-all P true x y f g = f refl
-pick-all P false x y f g = g refl
-
--- A field that has a value: its number is in range, and the rest starts behind its bytes.
-pub record Held (w low high v : ℕ) (l r : List ℕ) : Type 0 where
-  pub rest : r ≡ drop w l
-  pub low-most : low ≤ v
-  pub high-most : v ≤ high
-
--- Two constructors that are equal would make 0 equal 1.
-pub clash : _≡_ {A = ℕ} 0 1 → ⊥
-clash z = omega arith
-
--- A refusal is no value.
-pub never : {A : Type 0} {k : ℕ} {a : A} {r : List ℕ} → refused k ≡ value a r → ⊥
-never e = clash (cc)
-
-both-true : (a b : Bool) → a && b ≡ true → (a ≡ true) × (b ≡ true)
-both-true true b e = (refl, e)
-both-true false b e = absurd (clash (cc))
-
-pub field-held : (w fault low high v : ℕ) (l r : List ℕ) → field w fault low high l ≡ value v r → Held w low high v l r
-unfolding field
-field-held w fault low high v l r =
-    pick-all (λ x. x ≡ value v r → Held w low high v l r) (ltb (length l) w) (refused 1) _ (λ t e. absurd (never e))
-    (λ t.
-    pick-all (λ x. x ≡ value v r → Held w low high v l r) (leb low (number w l) && leb (number w l) high) (value (number w l) (drop w l)) (refused fault)
-    (λ s e.
-    let n : number w l ≡ v = cc in
-    let m : r ≡ drop w l = cc in
-    let b : (leb low (number w l) ≡ true) × (leb (number w l) high ≡ true) = both-true _ _ s in
-    record { rest = m; low-most = rw n at (leb-true low (number w l) (b .0)); high-most = rw n at (leb-true (number w l) high (b .1)) })
-    (λ s e. absurd (never e)))
-
 -- What is left after a reading.
 abbrev pub left : {A : Type 0} → Read A → List ℕ
 left (refused k) = []
 left (value a r) = r
 
 -- A reading is told by the code's answer and by what is left.
+module _ {A C : Type 0} (answer : Read A → C) (back : C → List ℕ → Read A) (told : (x : Read A) → x ≡ back (answer x) (left x)) where
+  pub read-by : (x : Read A) (f g : C) → f ≡ answer x → f ≡ g → x ≡ back g (left x)
+  read-by x f g e h = told x ∙ ap (λ (y : C). back y (left x)) (sym e ∙ h)
+
 abbrev readField : Field → List ℕ → Read ℕ
 readField (Value v) r = value v r
 readField (Refused k) r = refused k
@@ -83,28 +49,16 @@ read-field : (x : Read ℕ) → x ≡ readField (fieldOf x) (left x)
 read-field (refused k) = refl
 read-field (value v r) = refl
 
-read-by : (x : Read ℕ) (f g : Field) → f ≡ fieldOf x → f ≡ g → x ≡ readField g (left x)
-read-by x f g e h = read-field x ∙ ap (λ (y : Field). readField y (left x)) (sym e ∙ h)
+field-rest : (w fault low high v : ℕ) (l : List ℕ) → (let x = field w fault low high l in x ≡ value v (left x) → x ≡ value v (drop w l))
+field-rest w fault low high v l =
+    field-cases (λ x. x ≡ value v (left x) → x ≡ value v (drop w l)) w fault low high l (λ e. absurd (clash (cc))) (λ e. absurd (clash (cc))) (λ a b e. e)
 
 pub field-value : (w fault low high v : ℕ) (l : List ℕ) (f : Field) → f ≡ fieldOf (field w fault low high l) → f ≡ Value v → field w fault low high l ≡ value v (drop w l)
-field-value w fault low high v l f e h =
-    let x : field w fault low high l ≡ value v (left (field w fault low high l)) = read-by _ f (Value v) e h in
-    x ∙ ap (value v) (field-held w fault low high v l _ x .rest)
+field-value w fault low high v l f e h = field-rest w fault low high v l (read-by fieldOf readField read-field _ f (Value v) e h)
 
 pub field-no : (x : Read ℕ) (n k : ℕ) (f : Field) → n ≡ faultOf f → f ≡ Refused k → f ≡ fieldOf x → x ≡ refused n
-field-no x n k f e h g = read-by x f (Refused k) g h ∙ ap refused (sym (e ∙ ap faultOf h))
+field-no x n k f e h g = read-by fieldOf readField read-field x f (Refused k) g h ∙ ap refused (sym (e ∙ ap faultOf h))
 
--- The limit that a value was judged by.
-pub field-most : (w fault low high v : ℕ) (l : List ℕ) (f : Field) → f ≡ fieldOf (field w fault low high l) → f ≡ Value v → v ≤ high
-field-most w fault low high v l f e h = field-held w fault low high v l _ (field-value w fault low high v l f e h) .high-most
-
--- A reading after another that has a value: what the first one gave, and what the second one did with it.
-pub record Both {A B : Type 0} (x : Read A) (next : A → List ℕ → Read B) (b : B) (r : List ℕ) : Type 0 where
-  pub a : A
-  pub mid : List ℕ
-  pub first : x ≡ value a mid
-  pub then : next a mid ≡ value b r
-
-pub both-read : {A B : Type 0} (x : Read A) (next : A → List ℕ → Read B) (b : B) (r : List ℕ) → andThen x next ≡ value b r → Both x next b r
-both-read (refused k) next b r e = absurd (never e)
-both-read (value a m) next b r e = record { a = a; mid = m; first = refl; then = e }
+-- A count that was read is up to its limit.
+pub count-most : (low high v : ℕ) (l : List ℕ) (f : Field) → f ≡ fieldOf (countField low high l) → f ≡ Value v → v ≤ high
+count-most low high v l f e h = (rw (field-value 1 2 low high v l f e h) at (field-held 1 2 low high l (omega arith))) .high-most

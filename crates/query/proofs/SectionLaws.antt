@@ -18,7 +18,7 @@ use Rattle.query.specs.declared.items.TwoRead.the-variants as of-two
 use Rattle.query.specs.Fields.{Read, refused, value, countField, byteBelow, items}
 use Rattle.query.specs.Decode.{terms, two, noSites, withSite, site, sitesSection, noRelations, withRelation, relation, relationsSection, noJoins, withJoin, join, joinsSection, deliverySection}
 use Rattle.query.specs.Code.{fieldOf, faultOf, termsOf, termsFault, twoOf, twoFault}
-use Rattle.query.proofs.Reading.{field-value, field-no, field-most}
+use Rattle.query.proofs.Reading.{field-value, field-no, count-most}
 use Rattle.query.proofs.TermsTwo.{terms-value, terms-no, two-value, two-no}
 use Rattle.query.proofs.Loops.{stored-no, stored-on, items-done}
 
@@ -47,7 +47,7 @@ module _ (answer : Read Sites) (n i : ℕ) (a : Sites) (l p : List ℕ) (t : Ter
       (terms-value p t x y z e h)
 
 pub sites-most : (l : List ℕ) (f : Field) (v : ℕ) → f ≡ fieldOf (countField 1 8 l) → f ≡ Value v → v ≤ 8
-sites-most l f v e h = field-most 1 2 1 8 v l f e h
+sites-most l f v e h = count-most 1 8 v l f e h
 
 pub ruleset of-sites = (sites-cut, sites-most, sites-start, site-no, site-on, items-done)
 
@@ -79,7 +79,7 @@ module _ (s : ℕ) (answer : Read Relations) (n i : ℕ) (a : Relations) (l p : 
       (two-value s 2 p t x y e h)
 
 pub relations-most : (l : List ℕ) (f : Field) (v : ℕ) → f ≡ fieldOf (countField 1 9 l) → f ≡ Value v → v ≤ 9
-relations-most l f v e h = field-most 1 2 1 9 v l f e h
+relations-most l f v e h = count-most 1 9 v l f e h
 
 pub ruleset of-relations = (relations-cut, relations-most, relations-start, relation-no, relation-on, items-done)
 
@@ -96,7 +96,7 @@ unfolding joinsSection
 joins-start n l f v a e h z = rw (field-value 1 2 (n - 1) (n - 1) v l f e h, sub-zero, z)
 
 pub joins-most : (n : ℕ) (l : List ℕ) (f : Field) (v : ℕ) → f ≡ fieldOf (countField (n - 1) (n - 1) l) → f ≡ Value v → n ≤ 9 → v ≤ 8
-joins-most n l f v e h k = omega (arith, field-most 1 2 (n - 1) (n - 1) v l f e h)
+joins-most n l f v e h k = omega (arith, count-most (n - 1) (n - 1) v l f e h)
 
 module _ (n : ℕ) (answer : Read Joins) (m i : ℕ) (a : Joins) (l p : List ℕ) (t : TwoRead) where
   pub join-no :

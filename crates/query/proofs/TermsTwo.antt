@@ -13,7 +13,8 @@ use Rattle.query.specs.declared.items.TwoRead.the-variants as of-two
 use Rattle.query.specs.Fields.{Read, refused, value, byteBelow, amountUpTo}
 use Rattle.query.specs.Decode.{Terms, Two, terms, two}
 use Rattle.query.specs.Code.{fieldOf, faultOf, termsOf, termsFault, twoOf, twoFault}
-use Rattle.query.proofs.Reading.{left, field-held, field-value, field-no, Both, both-read}
+use Rattle.query.proofs.Ranges.{terms-held, two-held}
+use Rattle.query.proofs.Reading.{left, read-by, field-value, field-no}
 
 -- The ways through the terms: each field refused, or all three whole.
 module _ (l : List ℕ) (a : Field) where
@@ -67,29 +68,6 @@ module _ (i j : ℕ) (l : List ℕ) (a : Field) where
 
 pub ruleset some-two = (two-first, two-second, two-whole)
 
--- What the code's answers say: a refusal, or the terms with nine bytes used, the two with two bytes used.
-pub terms-rest : (l r : List ℕ) (t : Terms) → terms l ≡ value t r → r ≡ drop 9 l
-unfolding terms
-terms-rest l r t e =
-    let a : Both _ _ t r = both-read _ _ t r e in
-    let b : Both _ _ t r = both-read _ _ t r (a .then) in
-    let c : Both _ _ t r = both-read _ _ t r (b .then) in
-    let x : a .mid ≡ drop 1 l = field-held 1 3 0 1 (a .a) l (a .mid) (a .first) .rest in
-    let y : b .mid ≡ drop 4 (a .mid) = field-held 4 3 0 1_000_000 (b .a) (a .mid) (b .mid) (b .first) .rest in
-    let z : c .mid ≡ drop 4 (b .mid) = field-held 4 3 0 1_000 (c .a) (b .mid) (c .mid) (c .first) .rest in
-    let u : r ≡ c .mid = cc (c .then) in
-    u ∙ rw (z, y, x, drop-drop 4 1 l, drop-drop 4 5 l)
-
-pub two-rest : (i j : ℕ) (l r : List ℕ) (t : Two) → two i j l ≡ value t r → r ≡ drop 2 l
-unfolding two
-two-rest i j l r t e =
-    let a : Both _ _ t r = both-read _ _ t r e in
-    let b : Both _ _ t r = both-read _ _ t r (a .then) in
-    let x : a .mid ≡ drop 1 l = field-held 1 3 0 (i - 1) (a .a) l (a .mid) (a .first) .rest in
-    let y : b .mid ≡ drop 1 (a .mid) = field-held 1 3 0 (j - 1) (b .a) (a .mid) (b .mid) (b .first) .rest in
-    let u : r ≡ b .mid = cc (b .then) in
-    u ∙ rw (y, x, drop-drop 1 1 l)
-
 -- A reading is told by the code's answer and by what is left.
 abbrev readTerms : TermsRead → List ℕ → Read Terms
 readTerms (of-terms.Terms a b c) r = value (record { flag = a; fixed = b; rate = c }) r
@@ -107,26 +85,21 @@ read-two : (x : Read Two) → x ≡ readTwo (twoOf x) (left x)
 read-two (refused k) = refl
 read-two (value t r) = refl
 
+-- So a refusal, or the terms with nine bytes used, the two with two bytes used.
 module _ (l : List ℕ) (t : TermsRead) where
-  by : (u : TermsRead) → t ≡ termsOf (terms l) → t ≡ u → terms l ≡ readTerms u (left (terms l))
-  by u e h = read-terms (terms l) ∙ ap (λ (y : TermsRead). readTerms y (left (terms l))) (sym e ∙ h)
-
   pub terms-value : (a b c : ℕ) → t ≡ termsOf (terms l) → t ≡ of-terms.Terms a b c → terms l ≡ value (record { flag = a; fixed = b; rate = c }) (drop 9 l)
   terms-value a b c e h =
-      let x : terms l ≡ value (record { flag = a; fixed = b; rate = c }) (left (terms l)) = by _ e h in
-      x ∙ ap (value (record { flag = a; fixed = b; rate = c })) (terms-rest l _ _ x)
+      let x : terms l ≡ value (record { flag = a; fixed = b; rate = c }) (left (terms l)) = read-by termsOf readTerms read-terms _ t _ e h in
+      x ∙ ap (value (record { flag = a; fixed = b; rate = c })) ((rw x at (terms-held l)) .1)
 
   pub terms-no : (n k : ℕ) → n ≡ termsFault t → t ≡ of-terms.Refused k → t ≡ termsOf (terms l) → terms l ≡ refused n
-  terms-no n k f h e = by (of-terms.Refused k) e h ∙ ap refused (sym (f ∙ ap termsFault h))
+  terms-no n k f h e = read-by termsOf readTerms read-terms _ t (of-terms.Refused k) e h ∙ ap refused (sym (f ∙ ap termsFault h))
 
 module _ (i j : ℕ) (l : List ℕ) (t : TwoRead) where
-  by-two : (u : TwoRead) → t ≡ twoOf (two i j l) → t ≡ u → two i j l ≡ readTwo u (left (two i j l))
-  by-two u e h = read-two (two i j l) ∙ ap (λ (y : TwoRead). readTwo y (left (two i j l))) (sym e ∙ h)
-
   pub two-value : (a b : ℕ) → t ≡ twoOf (two i j l) → t ≡ of-two.Two a b → two i j l ≡ value (record { one = a; other = b }) (drop 2 l)
   two-value a b e h =
-      let x : two i j l ≡ value (record { one = a; other = b }) (left (two i j l)) = by-two _ e h in
-      x ∙ ap (value (record { one = a; other = b })) (two-rest i j l _ _ x)
+      let x : two i j l ≡ value (record { one = a; other = b }) (left (two i j l)) = read-by twoOf readTwo read-two _ t _ e h in
+      x ∙ ap (value (record { one = a; other = b })) ((rw x at (two-held i j l)) .1)
 
   pub two-no : (n k : ℕ) → n ≡ twoFault t → t ≡ of-two.Refused k → t ≡ twoOf (two i j l) → two i j l ≡ refused n
-  two-no n k f h e = by-two (of-two.Refused k) e h ∙ ap refused (sym (f ∙ ap twoFault h))
+  two-no n k f h e = read-by twoOf readTwo read-two _ t (of-two.Refused k) e h ∙ ap refused (sym (f ∙ ap twoFault h))

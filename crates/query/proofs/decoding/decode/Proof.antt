@@ -12,7 +12,8 @@ use Rattle.query.specs.declared.Relations.{Relations}
 use Rattle.query.specs.declared.Lines.{Lines}
 use Rattle.query.specs.Fields.{andThen}
 use Rattle.query.specs.Decode.{sizesSection, decode}
-use Rattle.query.proofs.Kept.{whole, sites-kept, relations-kept, JoinsKept, joins-kept, kept-count, kept-drawn, kept-tree}
+use Rattle.query.proofs.Ranges.{SitesIn, sites-in, RelationsIn, relations-in, JoinsIn, joins-in}
+use Rattle.query.proofs.Kept.{whole-in, kept-count, kept-drawn, kept-tree}
 use Rattle.query.proofs.FileLaws.{afterSites, afterRelations, afterJoins, afterSizes, afterLines, afterDelivery, from-start, goes-on, ends, not-reached, reached, more-bytes, all-read}
 use Rattle.query.proofs.decoding.decode.Statement.{statement}
 use Rattle.query.proofs.decoding.decode.Tie as tie
@@ -77,17 +78,17 @@ abbrev left-6 : tie.After-part-from6 → List ℕ
 left-6 c = now (c .part-from6 .result)
 
 -- What the first three sections keep to.
-sites-fine : (c : tie.After-part-from) → (1 ≤ sites c .count) × (sites c .count ≤ 8)
-sites-fine c = sites-kept _ _ _ (whole _ (c .before .before .before .before .read-sites .result .outcome) (c .before .before .before .before .read-sites .result .sites) (c .before .before .before .before .read-sites .result .used) _ (c .before .before .before .before .read-sites .ensures) (c .before .before .enum-told .given .1))
+sites-fine : (c : tie.After-part-from) → SitesIn (sites c)
+sites-fine c = whole-in SitesIn _ (sites-in _) (c .before .before .before .before .read-sites .result .outcome) (sites c) (c .before .before .before .before .read-sites .result .used) _ (c .before .before .before .before .read-sites .ensures) (c .before .before .enum-told .given .1)
 
-relations-fine : (c : tie.After-part-from2) → (1 ≤ relations c .count) × (relations c .count ≤ 9)
-relations-fine c = relations-kept _ _ _ _ (whole _ (c .before .before .before .before .read-relations .result .outcome) (c .before .before .before .before .read-relations .result .relations) (c .before .before .before .before .read-relations .result .used) _ (c .before .before .before .before .read-relations .ensures) (c .before .before .enum-told3 .given .1))
+relations-fine : (c : tie.After-part-from2) → RelationsIn (sites (back-1 c) .count) (relations c)
+relations-fine c = whole-in (RelationsIn _) _ (relations-in _ _) (c .before .before .before .before .read-relations .result .outcome) (relations c) (c .before .before .before .before .read-relations .result .used) _ (c .before .before .before .before .read-relations .ensures) (c .before .before .enum-told3 .given .1)
 
-joins-fine : (c : tie.After-part-from3) → JoinsKept (relations (back-2 c) .count) (joins c)
-joins-fine c = joins-kept _ _ _ _ (whole _ (c .before .before .before .before .read-joins .result .outcome) (c .before .before .before .before .read-joins .result .joins) (c .before .before .before .before .read-joins .result .used) _ (c .before .before .before .before .read-joins .ensures) (c .before .before .enum-told5 .given .1))
+joins-fine : (c : tie.After-part-from3) → JoinsIn (relations (back-2 c) .count) (joins c)
+joins-fine c = whole-in (JoinsIn _) _ (joins-in _ _) (c .before .before .before .before .read-joins .result .outcome) (joins c) (c .before .before .before .before .read-joins .result .used) _ (c .before .before .before .before .read-joins .ensures) (c .before .before .enum-told5 .given .1)
 
 joins-count : (c : tie.After-part-from3) → joins c .count + 1 ≡ relations (back-2 c) .count
-joins-count c = kept-count _ (joins c) (joins-fine c) (relations-fine (back-2 c))
+joins-count c = kept-count (relations-fine (back-2 c)) (joins-fine c)
 
 -- The answer from each place on.
 past-1 : (c : tie.After-part-from) → decode (file c) ≡ afterSites (sites c) (left-1 c)
@@ -125,39 +126,39 @@ decode-spec =
     (λ c κs. search needs)
     (λ c. ends _ _ _ (c .before .before .before .before .read-sites .result .outcome) (c .before .before .before .before .read-sites .result .sites) (c .before .before .before .before .read-sites .result .used) _ (from-start _) (c .before .before .before .before .read-sites .ensures) _ _ _ (c .before .before .enum-told2 .given .1) (c .before .outcome-fault .ensures) (c .refused .ensures))
     (λ c κs. search needs)
-    (λ c κs. sites-fine c .0)
+    (λ c κs. sites-fine c .some)
     (λ c. search needs)
     (λ c. search needs)
     (λ c κs. search needs)
     (λ c κs. search needs)
     (λ c. ends _ _ _ (c .before .before .before .before .read-relations .result .outcome) (c .before .before .before .before .read-relations .result .relations) (c .before .before .before .before .read-relations .result .used) _ (past-1 (c .before .before .before .before .before)) (c .before .before .before .before .read-relations .ensures) _ _ _ (c .before .before .enum-told4 .given .1) (c .before .outcome-fault2 .ensures) (c .refused2 .ensures))
     (λ c κs. search needs)
-    (λ c κs. relations-fine c)
+    (λ c κs. (relations-fine c .some, relations-fine c .most))
     (λ c. search needs)
     (λ c. search needs)
     (λ c κs. search needs)
     (λ c κs. search needs)
     (λ c. ends _ _ _ (c .before .before .before .before .read-joins .result .outcome) (c .before .before .before .before .read-joins .result .joins) (c .before .before .before .before .read-joins .result .used) _ (past-2 (c .before .before .before .before .before)) (c .before .before .before .before .read-joins .ensures) _ _ _ (c .before .before .enum-told6 .given .1) (c .before .outcome-fault3 .ensures) (c .refused3 .ensures))
     (λ c κs. search needs)
-    (λ c κs. kept-drawn _ (joins c) (joins-fine c) (relations-fine (back-2 c)))
+    (λ c κs. kept-drawn (relations-fine (back-2 c)) (joins-fine c))
     (λ c κs. search needs)
     (λ c. not-reached _ _ _ _ _ _ (past-3 (c .before .before .before)) (joins-count (c .before .before .before)) (c .before .before .reaches .ensures) _ (not-true _ (c .before .if1 .taken)) (c .refused4 .ensures))
-    (λ c κs. kept-tree _ (joins (c .before .before)) (joins-fine (c .before .before)) (relations-fine (back-2 (c .before .before))) _ (c .before .reaches .ensures) (not-false _ (c .if1 .left)))
-    (λ c κs. (kept-tree _ (joins (c .before .before .before)) (joins-fine (c .before .before .before)) (relations-fine (back-2 (c .before .before .before))) _ (c .before .before .reaches .ensures) (not-false _ (c .before .if1 .left)), c .count-subqueries .ensures))
+    (λ c κs. kept-tree (relations-fine (back-2 (c .before .before))) (joins-fine (c .before .before)) _ (c .before .reaches .ensures) (not-false _ (c .if1 .left)))
+    (λ c κs. (kept-tree (relations-fine (back-2 (c .before .before .before))) (joins-fine (c .before .before .before)) _ (c .before .before .reaches .ensures) (not-false _ (c .before .if1 .left)), c .count-subqueries .ensures))
     (λ c. search needs)
     (λ c. search needs)
     (λ c κs. search needs)
     (λ c κs. search needs)
     (λ c. ends _ _ _ (c .before .before .before .before .read-sizes .result .outcome) (c .before .before .before .before .read-sizes .result .sizes) (c .before .before .before .before .read-sizes .result .used) _ (past-test (c .before .before .before .before .before .before)) (c .before .before .before .before .read-sizes .ensures) _ _ _ (c .before .before .enum-told8 .given .1) (c .before .outcome-fault4 .ensures) (c .refused5 .ensures))
     (λ c κs. search needs)
-    (λ c κs. sites-fine (back-1 (back-2 (back-3 c))))
+    (λ c κs. let s = sites-fine (back-1 (back-2 (back-3 c))) in (s .some, s .most))
     (λ c. search needs)
     (λ c. search needs)
     (λ c κs. search needs)
     (λ c κs. search needs)
     (λ c. ends _ _ _ (c .before .before .before .before .read-lines .result .outcome) (c .before .before .before .before .read-lines .result .lines) (c .before .before .before .before .read-lines .result .used) _ (past-4 (c .before .before .before .before .before)) (c .before .before .before .before .read-lines .ensures) _ _ _ (c .before .before .enum-told10 .given .1) (c .before .outcome-fault5 .ensures) (c .refused6 .ensures))
     (λ c κs. search needs)
-    (λ c κs. sites-fine (back-1 (back-2 (back-3 (back-4 c)))) .0)
+    (λ c κs. sites-fine (back-1 (back-2 (back-3 (back-4 c)))) .some)
     (λ c. search needs)
     (λ c. search needs)
     (λ c κs. search needs)

@@ -1,0 +1,90 @@
+-- What a reading gives: each value that is read has a property P, with what is left behind it, and each refusal is one of 1 to 5. A chain of readings
+-- has this by its parts.
+use Prim.Native.Nat.{ℕ, zero, suc, _≤_, zero-le}
+use native.Mathlib.Omega.{arith}
+use mathlib.Core.Path.{_≡_, refl}
+use mathlib.Core.Bool.{Bool, true, false, _&&_, and-eq-true-iff}
+use mathlib.Core.List.{List, [], _∷_}
+use lib.ListN.{length, set, drop, replicate}
+use lib.Dec.{ltb, leb}
+use borrow.Author.Tests.{leb-true}
+use Rattle.query.specs.Choice.{pick}
+use Rattle.query.specs.Fields.{Read, refused, value, andThen, number, field, items}
+use Rattle.query.specs.Query.{UpTo}
+
+-- Two constructors that are equal would make 0 equal 1.
+pub clash : _≡_ {A = ℕ} 0 1 → ⊥
+clash z = omega arith
+
+abbrev pub Gives : {A : Type 0} → (A → List ℕ → Type 0) → Read A → Type 0
+Gives P (refused k) = (1 ≤ k) × (k ≤ 5)
+Gives P (value a r) = P a r
+
+-- The same where P does not speak of what is left.
+abbrev pub Has : {A : Type 0} → (A → Type 0) → Read A → Type 0
+Has P x = Gives (λ a r. P a) x
+
+-- A reading after another.
+pub gives-then :
+    {A B : Type 0} (P : A → List ℕ → Type 0) (Q : B → List ℕ → Type 0) (x : Read A) (next : A → List ℕ → Read B) → Gives P x →
+    ((a : A) (r : List ℕ) → P a r → Gives Q (next a r)) → Gives Q (andThen x next)
+gives-then P Q (refused k) next h f = h
+gives-then P Q (value a r) next h f = f a r h
+
+-- A property that follows.
+pub gives-so : {A : Type 0} (P Q : A → List ℕ → Type 0) (x : Read A) → Gives P x → ((a : A) (r : List ℕ) → P a r → Q a r) → Gives Q x
+gives-so P Q (refused k) h f = h
+gives-so P Q (value a r) h f = f a r h
+
+-- What holds of both of two values holds of the one picked.
+pub pick-all : {A : Type 0} (P : A → Type 0) (b : Bool) (x y : A) → (b ≡ true → P x) → (b ≡ false → P y) → P (pick b x y)
+pick-all P true x y f g = f refl
+pick-all P false x y f g = g refl
+
+-- Items that each keep P.
+pub gives-items :
+    {A : Type 0} (P : A → Type 0) (item : ℕ → A → List ℕ → Read A) → ((i : ℕ) (a : A) (l : List ℕ) → P a → Has P (item i a l)) → (k i : ℕ) (a : A) (l : List ℕ) →
+    P a → Has P (items item k i a l)
+unfolding items
+gives-items P item keep zero i a l h = h
+gives-items P item keep (suc k) i a l h = gives-then _ _ (item i a l) _ (keep i a l h) (λ b r g. gives-items P item keep k (suc i) b r g)
+
+-- A field is cut, at fault, or whole: its number is from low to high, and the rest starts behind its bytes.
+pub field-cases :
+    (R : Read ℕ → Type 0) (w fault low high : ℕ) (l : List ℕ) → R (refused 1) → R (refused fault) →
+    (low ≤ number w l → number w l ≤ high → R (value (number w l) (drop w l))) → R (field w fault low high l)
+unfolding field
+field-cases R w fault low high l cut out whole =
+    pick-all R (ltb (length l) w) _ _ (λ e. cut)
+    (λ e.
+    pick-all R (leb low (number w l) && leb (number w l) high) _ _
+    (λ t. let both = and-eq-true-iff _ _ .0 t in whole (leb-true _ _ (both .0)) (leb-true _ _ (both .1))) (λ t. out))
+
+pub record Held (w low high : ℕ) (l : List ℕ) (v : ℕ) (r : List ℕ) : Type 0 where
+  pub rest : r ≡ drop w l
+  pub low-most : low ≤ v
+  pub high-most : v ≤ high
+
+pub field-held : (w fault low high : ℕ) (l : List ℕ) → (1 ≤ fault) × (fault ≤ 5) → Gives (Held w low high l) (field w fault low high l)
+field-held w fault low high l h =
+    field-cases (Gives (Held w low high l)) w fault low high l (omega arith) h (λ a b. record { rest = refl; low-most = a; high-most = b })
+
+-- A reading after a field.
+pub field-then :
+    {B : Type 0} (Q : B → List ℕ → Type 0) (w fault low high : ℕ) (l : List ℕ) (next : ℕ → List ℕ → Read B) → (1 ≤ fault) × (fault ≤ 5) →
+    ((v : ℕ) (r : List ℕ) → Held w low high l v r → Gives Q (next v r)) → Gives Q (andThen (field w fault low high l) next)
+field-then Q w fault low high l next h = gives-then _ Q (field w fault low high l) next (field-held w fault low high l h)
+
+-- A list up to a limit stays so with a number up to the limit put at any place.
+pub set-up-to : (limit : ℕ) (l : List ℕ) (i v : ℕ) → v ≤ limit → UpTo limit l → UpTo limit (set l i v)
+set-up-to limit [] i v h u j = u j
+set-up-to limit (x ∷ l) zero v h u zero = h
+set-up-to limit (x ∷ l) zero v h u (suc j) = u (suc j)
+set-up-to limit (x ∷ l) (suc i) v h u zero = u zero
+set-up-to limit (x ∷ l) (suc i) v h u (suc j) = set-up-to limit l i v h (λ m. u (suc m)) j
+
+-- Zeros are up to every limit.
+pub zeros-up-to : (limit n : ℕ) → UpTo limit (replicate n 0)
+zeros-up-to limit zero i = zero-le
+zeros-up-to limit (suc n) zero = zero-le
+zeros-up-to limit (suc n) (suc i) = zeros-up-to limit n i
