@@ -15,7 +15,8 @@ use mir.Syntax.{w64}
 use mir.Val.{Fits}
 use Rattle.relations.specs.declared.Joins.{Joins}
 use Rattle.relations.specs.Trees.{isSubquery, Subquery, Tree}
-use Rattle.relations.specs.Code.{Drawn, LentTree, SidesOf}
+use Rattle.relations.specs.Code.{Drawn, EndsOf, subqueryBy, SidesOf}
+use Rattle.relations.proofs.Turns.{tested}
 use Rattle.relations.proofs.Counts.{ones-zero}
 use Rattle.relations.proofs.Connected.{subquery-range}
 use Rattle.relations.proofs.Leads.{never-both}
@@ -84,10 +85,9 @@ module _ (q : Query) (v : Valid q) where
         second-in = tree-here .second-in;
       }
 
-  pub lent-here : length (q .joins .first) ≡ 8 → length (q .joins .second) ≡ 8 → LentTree (q .joins .count) (q .joins .first) (q .joins .second)
-  lent-here f g =
-      let few = drawn-here .few in
-      record { few = few; first-long = omega arith; second-long = omega arith; tree = tree-here }
+  -- The test of a set by the ends of the joins.
+  pub test-here : (l : List ℕ) (S e : ℕ) (d : Bool) → EndsOf (q .joins) l (q .joins .count) → d ≡ subqueryBy l (q .joins .count) S → S < e → EndOf q e → d ≡ isSubquery (q .joins) (q .joins .count + 1) S
+  test-here l S e d h t below end = tested (q .joins) l S e d tree-here h t below (end .is ∙ ap (λ (n : ℕ). 2 ^ n) (sym (v .tree .joins)))
 
   pub subquery-here : (S : ℕ) (d : Bool) → d ≡ isSubquery (q .joins) (q .joins .count + 1) S → d ≡ true → Subquery (q .joins) (relationsOf q) S
   subquery-here S d e t = subst (λ (n : ℕ). isSubquery (q .joins) n S ≡ true) (v .tree .joins) (sym e ∙ t)

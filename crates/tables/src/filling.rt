@@ -3,6 +3,7 @@ use crate::joining::start_row;
 use crate::sending::store;
 use crate::splitting::size_of;
 use query::Query;
+use relations::ends;
 use relations::is_subquery;
 use relations::sides;
 use relations::single;
@@ -17,12 +18,13 @@ pub fn fill(q: Query, work: &mut [u64]) -> u64
     ensures { λ r. ⌜ FilledFrom q (now (work .entry)) (now (work .exit)) r ⌝ }
 {
     let count = q.joins.count;
+    let cuts = ends(q.joins);
     let around = sides(q.joins);
     let end = single(count + 1);
     let mut tried = 0;
     let mut set = 1;
     while set < end {
-        if is_subquery(&q.joins.first, &q.joins.second, count, set) {
+        if is_subquery(&cuts, count, set) {
             let row = start_row(
                 &*work,
                 &around,
