@@ -26,7 +26,8 @@ fn solves(start: Planner, times: u64) -> u64
     let mut i = 0;
     while i < times {
         let d = planner::solve(p, &mut cells);
-        plans += found(d.answer);
+        let a = d.answer;
+        plans += found(a);
         p = d.planner;
         i += 1;
     }
