@@ -21,6 +21,10 @@ module _ (q : Query) (v : Valid q) (c : ℕ) (number : cheapest _+_ q ≡ some c
   few-steps : length (writtenSteps _+_ q) ≤ 34
   few-steps = written-law _+_ plus-combines q v c number .few-steps
 
+  -- The written plan has at most 69 bytes.
+  pub written-most : length (written _+_ q) ≤ 69
+  written-most = omega (arith, step-bytes-long (writtenSteps _+_ q), few-steps)
+
   pub every-is : (S : ℕ) → S ≡ all (q .joins .count + 1) → S ≡ all (relationsOf q)
   every-is S e = e ∙ ap all (v .tree .joins)
 

@@ -1,8 +1,8 @@
 #!/usr/bin/env python3
 """Makes the stored input of the program `solve`: query files, each after its length in two bytes, little-endian.
 
-  vectors.py IN            writes the input
-  vectors.py IN EXPECTED   also writes what document 01 says of each file, by the two tables as they stand there
+  make_stdin.py IN            writes the input
+  make_stdin.py IN EXPECTED   also writes what document 01 says of each file, by the two tables as they stand there
 """
 import functools
 import itertools
