@@ -18,7 +18,8 @@ gcc -g -Wall -Wextra -Werror -fsanitize=address,undefined -fno-sanitize-recover=
 "$out/boundary" examples/q.query
 
 echo "== the reference's own tests"
-cargo test --quiet --release --offline --manifest-path reference/Cargo.toml
+cargo test --quiet --release --offline --manifest-path reference/Cargo.toml >"$out/reference.txt" 2>&1 || { cat "$out/reference.txt"; exit 1; }
+grep -c '^test result: ok' "$out/reference.txt"
 
 echo "== the programs and the archive beside the reference"
 cargo build --quiet --release --offline --manifest-path reference/Cargo.toml

@@ -14,7 +14,7 @@ pub fn bit(set: usize, r: usize) -> usize
 }
 
 // Relations f and s are both in the set.
-pub fn both(set: usize, f: usize, s: usize) -> bool
+pub(crate) fn both(set: usize, f: usize, s: usize) -> bool
     ensures { λ r. ⌜ r ≡ eqb (bit set f + bit set s) 2 ⌝ }
 {
     bit(set, f) + bit(set, s) == 2
@@ -28,7 +28,7 @@ pub fn within(set: usize, part: usize) -> bool
 }
 
 // The set with relation r, whether r was in it or not.
-pub fn with(set: usize, r: usize) -> usize
+pub(crate) fn with(set: usize, r: usize) -> usize
     requires { ⌜ r < 64 ⌝ }
     ensures { λ v. ⌜ v ≡ put set r ⌝ }
 {

@@ -4,7 +4,7 @@ ghost use mathlib.Core.Path.{_≡_};
 ghost use Rattle.tables.specs.Code.{place, lesser, betterOf};
 
 // The figure that stands for none: no sum of figures and prices comes near it, and no sum with it is below it.
-pub const NONE: u64 = 1152921504606846976;
+pub(crate) const NONE: u64 = 1152921504606846976;
 
 // A figure and the place where it was found.
 pub struct Choice {
@@ -13,7 +13,7 @@ pub struct Choice {
 }
 
 // The place of a subquery's cell at a site.
-pub fn place(set: usize, site: usize) -> usize
+pub(crate) fn place(set: usize, site: usize) -> usize
     requires { ⌜ (set < 512) × (site < 8) ⌝ }
     ensures { λ r. ⌜ (r ≡ place set site) × (r < 4096) ⌝ }
 {
@@ -21,14 +21,14 @@ pub fn place(set: usize, site: usize) -> usize
 }
 
 // The lesser of a new figure and the kept one.
-pub fn lesser(new: u64, kept: u64) -> u64
+pub(crate) fn lesser(new: u64, kept: u64) -> u64
     ensures { λ r. ⌜ r ≡ lesser new kept ⌝ }
 {
     if new < kept { new } else { kept }
 }
 
 // The new figure at i where it is less than the kept one, else the kept one: of equal figures the lower place stays.
-pub fn better(new: u64, i: usize, kept: Choice) -> Choice
+pub(crate) fn better(new: u64, i: usize, kept: Choice) -> Choice
     ensures { λ r. ⌜ r ≡ betterOf new i kept ⌝ }
 {
     if new < kept.figure {

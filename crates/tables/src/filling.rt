@@ -13,7 +13,7 @@ ghost use Rattle.query.specs.Query.{Valid};
 ghost use Rattle.tables.specs.Code.{FilledFrom};
 
 // Fills the cells of every subquery, and counts the joins in all of them.
-pub fn fill(q: Query, work: &mut [u64]) -> u64
+pub(crate) fn fill(q: Query, work: &mut [u64]) -> u64
     requires { ⌜ Valid q × (4096 ≤ length (now work)) ⌝ }
     ensures { λ r. ⌜ FilledFrom q (now (work .entry)) (now (work .exit)) r ⌝ }
 {

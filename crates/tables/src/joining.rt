@@ -111,7 +111,7 @@ fn bare_row(home: usize) -> [u64; 8]
 }
 
 // What a subquery has cost at each site where it can start from: the home of one relation, else the sites where it is joined.
-pub fn start_row(
+pub(crate) fn start_row(
     work: &[u64],
     around: &[usize; 8],
     joins: Joins,
@@ -131,7 +131,7 @@ pub fn start_row(
 }
 
 // The lowest join of the least figure at site k.
-pub fn best_join(
+pub(crate) fn best_join(
     work: &[u64],
     around: &[usize; 8],
     joins: Joins,

@@ -7,7 +7,5 @@ mod solving;
 mod splitting;
 mod writing;
 
-pub use filling::fill;
 pub use solving::Solved;
 pub use solving::solve;
-pub use writing::write_plan;

@@ -35,7 +35,7 @@ fn carriage<'a>(
 }
 
 // The lowest site of the least figure by way of it, and that figure.
-pub fn best_site<'a>(
+pub(crate) fn best_site<'a>(
     row: &[u64; 8],
     flag: &'a [u64; 64],
     fixed: &'a [u64; 64],
@@ -60,7 +60,7 @@ pub fn best_site<'a>(
 }
 
 // The cells of a subquery from what it has cost at each site where it can start from.
-pub fn store<'a>(
+pub(crate) fn store<'a>(
     work: &mut [u64],
     row: &[u64; 8],
     flag: &'a [u64; 64],

@@ -25,7 +25,7 @@ pub struct Split {
 }
 
 // The relation of a set of one.
-pub fn only(set: usize) -> usize
+pub(crate) fn only(set: usize) -> usize
     requires { ⌜ (ones set ≡ 1) × (set < 512) ⌝ }
     ensures { λ r. ⌜ (r ≡ trailingZeros 64 set) × (r < 9) ⌝ }
 {
@@ -33,7 +33,7 @@ pub fn only(set: usize) -> usize
 }
 
 // The home of the relation of a set of one.
-pub fn home_of(home: &[usize; 9], set: usize) -> usize
+pub(crate) fn home_of(home: &[usize; 9], set: usize) -> usize
     requires { ⌜ (ones set ≡ 1) × (set < 512) ⌝ }
     ensures { λ r. ⌜ r ≡ getD (now (home .entry)) (trailingZeros 64 set) 0 ⌝ }
 {
@@ -42,7 +42,7 @@ pub fn home_of(home: &[usize; 9], set: usize) -> usize
 }
 
 // The size of a set.
-pub fn size_of(sizes: &[u64; 512], set: usize) -> Bytes
+pub(crate) fn size_of(sizes: &[u64; 512], set: usize) -> Bytes
     requires { ⌜ set < 512 ⌝ }
     ensures { λ r. ⌜ r .0 ≡ getD (now (sizes .entry)) set 0 ⌝ }
 {
@@ -79,7 +79,7 @@ fn operand_of<'a>(
 }
 
 // A set's two parts, of which one is given.
-pub fn split_of<'a>(
+pub(crate) fn split_of<'a>(
     home: &'a [usize; 9],
     index: &'a [u64; 9],
     sizes: &[u64; 512],
@@ -99,7 +99,7 @@ pub fn split_of<'a>(
 }
 
 // The figure of joining the two parts at site k: what both have there and the price of the join.
-pub fn trial<'a>(
+pub(crate) fn trial<'a>(
     work: &[u64],
     fixed: &'a [u64; 8],
     rate: &'a [u64; 8],

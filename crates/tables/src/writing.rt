@@ -123,7 +123,7 @@ fn write_joined(
 }
 
 // Writes the plan: its count of steps, then the steps.
-pub fn write_plan(q: Query, work: &[u64], out: &mut [u8]) -> usize
+pub(crate) fn write_plan(q: Query, work: &[u64], out: &mut [u8]) -> usize
     requires { ⌜ Valid q × Filled q (now work) (2 ^ relationsOf q) ⌝ }
     requires { ⌜ ((c : ℕ) × (cheapest _+_ q ≡ some c)) ⌝ }
     requires { ⌜ 69 ≤ length (now out) ⌝ }
