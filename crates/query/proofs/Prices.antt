@@ -76,14 +76,10 @@ pub carriage-stays : (q : Query) (P k : ℕ) → carriage q P k k ≡ some 0
 unfolding carriage
 carriage-stays q P k = rw (eq-eqb k k refl)
 
--- An open line to another site has its price, a closed one none.
+-- An open line to another site has its price.
 pub carriage-sent : (q : Query) (P k t : ℕ) → (k ≡ t → ⊥) → isOpen q k t ≡ true → carriage q P k t ≡ some (linePrice q P k t)
 unfolding carriage
 carriage-sent q P k t h o = rw (ne-eqb k t h, o)
-
-pub carriage-closed : (q : Query) (P k t : ℕ) → (k ≡ t → ⊥) → isOpen q k t ≡ false → carriage q P k t ≡ none
-unfolding carriage
-carriage-closed q P k t h o = rw (ne-eqb k t h, o)
 
 -- A carriage that is a number is nothing at the same site or the price of an open line to another.
 abbrev pub Carried : Query → ℕ → ℕ → ℕ → ℕ → Type 0

@@ -134,11 +134,6 @@ pub growth-least : GrowthLeast
 growth-least J S x k A s h =
     record { has = grow-has J S x k A; within = grow-within J S x k A s; closed = grow-closed J S x k A s h; least = λ C c t. grow-least J S x k A C c t }
 
--- More steps than enough change nothing.
-pub grow-more : (J : Joins) (S x A k l : ℕ) → Sub A S → ones S ≤ ones A + k → ones S ≤ ones A + l → grow J S x k A ≡ grow J S x l A
-grow-more J S x A k l s h g =
-    grown-unique J S x A (grow J S x k A) (grow J S x l A) (growth-least J S x k A s h) (growth-least J S x l A s g)
-
 -- Growth may begin with any join that leads out.
 pub grow-add : (J : Joins) (S x A k i : ℕ) → Sub A S → ones S ≤ ones A + k → i < J .count → Leads J S x A i → grow J S x k (along J A i) ≡ grow J S x k A
 grow-add J S x A k i s h l o = grown-unique J S x A (grow J S x k (along J A i)) (grow J S x k A) from-here (growth-least J S x k A s h)

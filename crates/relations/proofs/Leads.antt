@@ -60,10 +60,6 @@ pub leads-is :
 unfolding leads
 leads-is J S x A e d p q = rw (ne-eqb e x d, ends-inside J S e p q)
 
-pub leads-of : (J : Joins) (S x A e : ℕ) → Leads J S x A e → leads J S x A e ≡ true
-leads-of J S x A e o =
-    leads-is J S x A e (o .other) (o .first-in) (o .second-in) ∙ eq-eqb (bit A (first J e) + bit A (second J e)) 1 (o .half)
-
 pub leads-not :
     (J : Joins) (S x A e : ℕ) → leads J S x A e ≡ false → (e ≡ x → ⊥) → bit S (first J e) ≡ 1 → bit S (second J e) ≡ 1
     → bit A (first J e) ≡ bit A (second J e)

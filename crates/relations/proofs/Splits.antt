@@ -26,10 +26,6 @@ part-grown J n S e h p = growth-least J S e n (2 ^ first J e) (sub-single S (fir
 
 module _ (J : Joins) (n : ℕ) (t : Tree J n) (S e : ℕ) (l : e < J .count) (below : S < 2 ^ n) (c : Conn J S) (f : bit S (first J e) ≡ 1)
     (g : bit S (second J e) ≡ 1) where
-  -- Any join but e has both its relations on one side.
-  one-side : (i : ℕ) → i < J .count → (i ≡ e → ⊥) → bit (side J n e) (first J i) ≡ bit (side J n e) (second J i)
-  one-side = side-other J n t e l
-
   -- Where S is split by the side, its halves are linked by e alone, seen from either.
   halves : (P R : ℕ) → ((r : ℕ) → bit P r ≡ min (bit S r) (bit (side J n e) r)) → ((r : ℕ) → bit R r ≡ bit S r - bit (side J n e) r)
       → Halves J S P R (first J e) (second J e) × Halves J S R P (second J e) (first J e)
@@ -40,7 +36,7 @@ module _ (J : Joins) (n : ℕ) (t : Tree J n) (S e : ℕ) (l : e < J .count) (be
       there = omega (arith, r (second J e), side-second J n t e l);
       link = λ i b u w. elim (ℕ-discrete i e) [
         | yes q ↦ inr (λ B h. subst (λ (j : ℕ). bit B (first J j) ≡ bit B (second J j)) (sym q) h)
-        | no q ↦ inl (omega (arith, p (first J i), p (second J i), one-side i b q))
+        | no q ↦ inl (omega (arith, p (first J i), p (second J i), side-other J n t e l i b q))
       ];
     },
     record {
@@ -49,7 +45,7 @@ module _ (J : Joins) (n : ℕ) (t : Tree J n) (S e : ℕ) (l : e < J .count) (be
       there = omega (arith, p (first J e), side-first J n t e l);
       link = λ i b u w. elim (ℕ-discrete i e) [
         | yes q ↦ inr (λ B h. subst (λ (j : ℕ). bit B (first J j) ≡ bit B (second J j)) (sym q) (sym h))
-        | no q ↦ inl (omega (arith, r (first J i), r (second J i), one-side i b q))
+        | no q ↦ inl (omega (arith, r (first J i), r (second J i), side-other J n t e l i b q))
       ];
     },
   )
@@ -69,7 +65,7 @@ module _ (J : Joins) (n : ℕ) (t : Tree J n) (S e : ℕ) (l : e < J .count) (be
   masked-grown = record {
     has = sub-single masked (first J e) first-in;
     within = λ r. omega (arith, masked-bit r);
-    closed = λ i b d u w. omega (arith, masked-bit (first J i), masked-bit (second J i), one-side i b d);
+    closed = λ i b d u w. omega (arith, masked-bit (first J i), masked-bit (second J i), side-other J n t e l i b d);
     least = λ C k s. masked-conn .whole C (λ i b d u w.
         k i b (λ q. omega (arith, subst (λ (j : ℕ). bit masked (second J j) ≡ 1) q w, masked-bit (second J e), side-second J n t e l))
         (omega (arith, u, masked-bit (first J i), bit-le S (first J i))) (omega (arith, w, masked-bit (second J i), bit-le S (second J i))))

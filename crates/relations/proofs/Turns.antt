@@ -18,21 +18,17 @@ use Rattle.relations.specs.Trees.{isSubquery, countBelow, subqueries, si
 use Rattle.relations.specs.Code.{tally, endsBelow, Drawn, SidesOf}
 use Rattle.relations.proofs.SubqueryCount.{subquery-by-count}
 
+tally-is : (d : Bool) (n : ℕ) → _≡_ {A = ℕ} (elim d [ true ↦ suc n | false ↦ n ]) (tally d n)
+tally-is true n = refl
+tally-is false n = refl
+
 joins-next : (J : Joins) (S e : ℕ) → joinsIn J S (suc e) ≡ tally (inside J S e) (joinsIn J S e)
 unfolding joinsIn
-joins-next J S e = go (inside J S e) refl
-  where
-    go : (d : Bool) → inside J S e ≡ d → joinsIn J S (suc e) ≡ tally d (joinsIn J S e)
-    go true p = rw (p, joinsIn)
-    go false p = rw (p, joinsIn)
+joins-next J S e = tally-is (inside J S e) (joinsIn J S e)
 
 subqueries-next : (J : Joins) (n S : ℕ) → countBelow J n (suc S) ≡ tally (isSubquery J n S) (countBelow J n S)
 unfolding countBelow
-subqueries-next J n S = go (isSubquery J n S) refl
-  where
-    go : (d : Bool) → isSubquery J n S ≡ d → countBelow J n (suc S) ≡ tally d (countBelow J n S)
-    go true p = rw (p, countBelow)
-    go false p = rw (p, countBelow)
+subqueries-next J n S = tally-is (isSubquery J n S) (countBelow J n S)
 
 -- One join more: the joins in a set, and the joins whose ends are in range.
 pub joins-more : (J : Joins) (S e n r : ℕ) (d : Bool) → n ≡ joinsIn J S e → d ≡ eqb (bit S (first J e) + bit S (second J e)) 2 → r ≡ tally d n → r ≡ joinsIn J S (e + 1)
@@ -71,3 +67,6 @@ subqueries-done J n S m end p l h q = let last : S ≡ 2 ^ n = omega arith in cc
 -- The sets of at most nine relations are few.
 pub few-sets : (m s : ℕ) → m ≤ 8 → s ≡ 2 ^ (m + 1) → s ≤ 512
 few-sets m s h q = let most : 2 ^ (m + 1) ≤ 2 ^ 9 = pow-mono {j = 9} (omega arith) in omega arith
+
+pub below-512 : (S n : ℕ) → n ≤ 9 → S < 2 ^ n → S < 512
+below-512 S n l h = omega (arith, pow-mono l)

@@ -9,13 +9,13 @@ use lib.Bits.{bitAnd}
 use lib.Count.{ones}
 use lib.Dec.{eqb}
 use lib.ListN.{length, getD}
-use lib.Pow.{pow-mono}
 use Rattle.relations.specs.Growth.{inside}
 use Rattle.relations.specs.Trees.{Subquery, side}
 use Rattle.relations.specs.Theorems.{Split}
 use Rattle.relations.specs.Code.{SidesOf}
 use Rattle.relations.proofs.Splits.{split, part-by-side, Smaller, split-smaller}
 use Rattle.relations.proofs.Connected.{subquery-range}
+use Rattle.relations.proofs.Turns.{below-512}
 use Rattle.query.specs.declared.Query.{Query}
 use Rattle.query.specs.Choice.{pick}
 use Rattle.query.specs.Cost.{Cost, none, some, both, plus}
@@ -37,7 +37,7 @@ lentBy q work around =
 
 -- A set of relations is below 512.
 pub set-low : (q : Query) → Valid q → (S : ℕ) → S < 2 ^ relationsOf q → S < 512
-set-low q v S h = omega (arith, pow-mono {i = relationsOf q} {j = 9} (v .relations-most))
+set-low q v S h = below-512 S (relationsOf q) (v .relations-most) h
 
 pub delivered-up-to : (q : Query) → Valid q → (S t : ℕ) → Subquery (q .joins) (relationsOf q) S → UpToOr 41_000_025_000_000 (delivered _+_ q S t)
 delivered-up-to q v S t s = up-to-is 41_000_025_000_000 (delivered _+_ q S t) (λ c e. delivered-most q v S t c s e)

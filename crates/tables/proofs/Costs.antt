@@ -17,10 +17,6 @@ pub at-most-is : (a : Cost) (c n : ℕ) → a ≡ some c → c ≤ n → AtMost 
 at-most-is none c n e h = absurd (none-some c e)
 at-most-is (some d) c n e h = let same : d ≡ c = some-same d c e in omega arith
 
-pub at-most-number : (a : Cost) (n : ℕ) → AtMost a n → (c : ℕ) × (a ≡ some c) × (c ≤ n)
-at-most-number none n h = absurd h
-at-most-number (some c) n h = (c, refl, h)
-
 pub at-most-more : (a : Cost) (m n : ℕ) → m ≤ n → AtMost a m → AtMost a n
 at-most-more none m n l h = h
 at-most-more (some c) m n l h = le-trans h l

@@ -13,7 +13,7 @@ use lib.Seq.{ext-getD, getD-drop}
 use Rattle.relations.specs.declared.Joins.{Joins}
 use Rattle.relations.specs.Trees.{isSubquery, Subquery, Tree}
 use Rattle.relations.specs.Code.{Drawn, SidesOf}
-use Rattle.relations.proofs.Counts.{ones-zero, lowest-below}
+use Rattle.relations.proofs.Counts.{ones-zero, one-some, lowest-below}
 use Rattle.relations.proofs.Connected.{subquery-range}
 use Rattle.relations.proofs.Leads.{never-both}
 use Rattle.query.specs.declared.Query.{Query}
@@ -24,7 +24,6 @@ use Rattle.tables.specs.Tables.{only, delivered, joined, joinsBelow}
 use Rattle.tables.specs.Code.{place, mark, carriageAt, deliveredAt, Priced, Stored, Filled, FilledFrom}
 use Rattle.tables.proofs.Tables.{ones-some, delivered-one}
 use Rattle.tables.proofs.Figures.{place-low, place-apart}
-use Rattle.tables.proofs.Operands.{one-some}
 use Rattle.tables.proofs.Carried.{only-is, carriage-is}
 use Rattle.tables.proofs.Columns.{set-low, delivered-figure}
 
