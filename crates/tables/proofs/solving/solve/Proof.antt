@@ -13,14 +13,11 @@ solve-spec =
     (λ c κs. search needs)
     (λ c. let s = c .before .before .before .before .before .before in let q = s .args .q in let v = s .pre .0 in let f = c .before .before .fill .ensures in
     omega (arith, trials-few q v _ _ _ f))
-    (λ c. let s = c .before .before .before .before .before .before .before in let q = s .args .q in let v = s .pre .0 in let f = c .before .before .before .fill .ensures in
-    omega (arith, drawn-here q v .few))
-    (λ c κs. let s = c .before .before .before .before .before .before .before in let q = s .args .q in let v = s .pre .0 in let f = c .before .before .before .fill .ensures in
-    omega (arith, drawn-here q v .few))
-    (λ c κs. let s = c .before .before .before .before .before .before .before .before in let q = s .args .q in let v = s .pre .0 in let f = c .before .before .before .before .fill .ensures in
-    every-low q v _ (c .whole .ensures))
+    (λ c. let s = c .before .before .before .before .before .before .before in let q = s .args .q in let v = s .pre .0 in omega (arith, drawn-here q v .few))
+    (λ c κs. let s = c .before .before .before .before .before .before .before in let q = s .args .q in let v = s .pre .0 in omega (arith, drawn-here q v .few))
+    (λ c κs. let s = c .before .before .before .before .before .before .before .before in let q = s .args .q in let v = s .pre .0 in every-low q v _ (c .whole .ensures))
     (λ c. search needs)
-    (λ c. let s = c .before .before .before .before .before .before .before .before .before .before in let q = s .args .q in let v = s .pre .0 in let f = c .before .before .before .before .before .before .fill .ensures in
+    (λ c. let f = c .before .before .before .before .before .before .fill .ensures in
     omega (arith, f .cells .room, c .before .place .ensures .1))
     (λ c κs. let s = c .before .before .before .before .before .before .before .before .before .before .before .before .before in let q = s .args .q in let v = s .pre .0 in let f = c .before .before .before .before .before .before .before .before .before .fill .ensures in
     ((v, f .cells), ((_, cheapest-number q v _ (c .before .before .before .before .before .whole .ensures) _ _ _ _ f (c .before .before .before .before .place .ensures .0) (c .before .before .if1 .taken)), s .pre .1 .1)))
