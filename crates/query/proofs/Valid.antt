@@ -1,5 +1,5 @@
 -- Every decoded query is valid, and a file that gives none is refused with 1 to 5: the sections' ranges, in reading order, make up what a query keeps to.
-use Prim.Native.Nat.{ℕ, _-_, _≤_}
+use Prim.Native.Nat.{ℕ}
 use native.Mathlib.Omega.{arith}
 use mathlib.Core.Path.{_≡_}
 use mathlib.Core.List.{List}

@@ -17,7 +17,6 @@ use Rattle.query.specs.Decode.{noRelations, noJoins}
 use Rattle.query.specs.Prices.{linePrice, reads, joinPrice, indexed}
 use Rattle.query.specs.Indexed.{indexedIn}
 use Rattle.query.proofs.Indexed.{indexed-in}
-use Rattle.rules.specs.declared.Origin.{Origin}
 use Rattle.rules.specs.declared.Origin.the-variants.{Sent, Joined}
 use Rattle.rules.specs.declared.Held.{Held}
 use Rattle.rules.specs.Machine.{charge, isBare, sentTo, spared, joinOf}

@@ -4,7 +4,7 @@ use mathlib.Core.Path.{_≡_, refl}
 use mathlib.Core.Bool.{false, not, _&&_}
 use mathlib.Core.List.{List, [], _∷_}
 use native.Mathlib.Omega.{arith}
-use lib.Count.{ones, ones-le}
+use lib.Count.{ones-le}
 use lib.Pow.{pow-pos, pow-mono, pow-lt}
 use lib.Dec.{eqb, ltb}
 use mir.Syntax.{w64}
@@ -23,7 +23,7 @@ use Rattle.rules.specs.declared.Origin.the-variants.{Bare, Sent, Joined}
 use Rattle.rules.specs.declared.Held.{Held}
 use Rattle.rules.specs.Machine.{Machine, start, Outcome, went, refused, isSent, load, sendTop, send, links, spared, joinTop, join, step}
 use Rattle.rules.specs.Plans.{Step}
-use Rattle.rules.specs.Code.{Room, topFirst, slack, sets, figures}
+use Rattle.rules.specs.Code.{Room, topFirst, slack}
 use Rattle.rules.proofs.Steps.{guarded, step-cases}
 use Rattle.rules.proofs.Stacks.{depth-is}
 

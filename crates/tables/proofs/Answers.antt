@@ -12,11 +12,10 @@ use Rattle.relations.proofs.Subqueries.{subqueries-law}
 use Rattle.query.specs.declared.Query.{Query}
 use Rattle.query.specs.Query.{Valid, relationsOf, sitesOf}
 use Rattle.query.specs.Cost.{Cost, none, some}
-use Rattle.tables.specs.declared.solving.Solved.{Solved}
 use Rattle.tables.specs.declared.solving.Solved.the-variants.{Found, NoRoute}
 use Rattle.tables.specs.Tables.{cheapest, joinsBelow}
 use Rattle.tables.specs.Plan.{written}
-use Rattle.tables.specs.Code.{place, noneMark, mark, Filled, FilledFrom}
+use Rattle.tables.specs.Code.{place, noneMark, mark, FilledFrom}
 use Rattle.tables.specs.Solved.{solvedAs, planAfter}
 use Rattle.tables.proofs.Marks.{UpToOr}
 use Rattle.tables.proofs.Columns.{set-low, delivered-up-to}

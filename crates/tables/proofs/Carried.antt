@@ -1,7 +1,7 @@
 -- Over a query's own lists the site of a spared read, the price of a join and a carriage are the definitions'.
-use Prim.Native.Nat.{ℕ, _+_, _*_, _^_, _≤_, _<_}
+use Prim.Native.Nat.{ℕ, _+_, _*_, _^_, _<_}
 use native.Mathlib.Omega.{arith}
-use mathlib.Core.Path.{_≡_, refl, sym, ap, _∙_}
+use mathlib.Core.Path.{_≡_, refl, sym, _∙_}
 use mathlib.Core.Bool.{Bool, true, false, _&&_}
 use lib.Count.{ones, trailingZeros}
 use lib.Dec.{eqb}
@@ -10,7 +10,7 @@ use borrow.Author.Tests.{eqb-true, ne-eqb}
 use Rattle.relations.specs.Sets.{lowest}
 use Rattle.query.specs.declared.Query.{Query}
 use Rattle.query.specs.Choice.{pick}
-use Rattle.query.specs.Cost.{Cost, none, some}
+use Rattle.query.specs.Cost.{none, some}
 use Rattle.query.specs.Query.{Valid, relationsOf, home, index, joinFixed, joinRate, isOpen, lineFixed, lineRate, size}
 use Rattle.query.specs.Prices.{linePrice, carriage, reads, joinPrice, indexed}
 use Rattle.relations.proofs.Counts.{one-some, lowest-same}

@@ -8,7 +8,7 @@ use mathlib.Core.List.{List}
 use lib.Bits.{bitAnd}
 use lib.Count.{ones}
 use lib.Dec.{eqb}
-use lib.ListN.{length, getD}
+use lib.ListN.{getD}
 use Rattle.relations.specs.Growth.{inside}
 use Rattle.relations.specs.Trees.{Subquery, side}
 use Rattle.relations.specs.Theorems.{Split}
@@ -18,7 +18,7 @@ use Rattle.relations.proofs.Connected.{subquery-range}
 use Rattle.relations.proofs.Turns.{below-512}
 use Rattle.query.specs.declared.Query.{Query}
 use Rattle.query.specs.Choice.{pick}
-use Rattle.query.specs.Cost.{Cost, none, some, both, plus}
+use Rattle.query.specs.Cost.{none, some, both, plus}
 use Rattle.query.specs.Query.{Valid, relationsOf, sitesOf, mayJoin}
 use Rattle.query.specs.Prices.{carriage, joinPrice, indexed}
 use Rattle.query.proofs.Prices.{join-most}

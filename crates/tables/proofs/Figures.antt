@@ -1,19 +1,15 @@
 -- Laws of the cells and the figures that the code keeps: each way through a small function, and each turn of a loop, as a law over plain variables.
-use Prim.Native.Nat.{ℕ, zero, suc, _+_, _-_, _*_, _^_, _≤_, _<_}
+use Prim.Native.Nat.{ℕ, zero, suc, _+_, _*_, _^_, _≤_, _<_}
 use native.Mathlib.Nat.{le-refl}
 use native.Mathlib.Numerals.{add-one}
 use native.Mathlib.Omega.{arith}
 use mathlib.Core.Path.{_≡_, refl, sym, ap, _∙_}
 use mathlib.Core.Bool.{Bool, true, false}
-use mathlib.Core.List.{List}
-use lib.ListN.{length, getD, set, length-set}
-use lib.Seq.{getD-set-same, getD-set-other}
-use lib.Dec.{eqb, ltb}
-use borrow.Author.Tests.{lt-ltb, le-ltb, ltb-true, ltb-false}
-use borrow.Author.Count.{below-more}
+use lib.Dec.{ltb}
+use borrow.Author.Tests.{lt-ltb, le-ltb, ltb-true}
 use Rattle.query.specs.Choice.{pick}
 use Rattle.tables.specs.declared.cells.Choice.{Choice}
-use Rattle.tables.specs.Code.{place, noneMark, lesser, leastOf, placeOf, ChoiceOf, betterOf, Row, Tried, Stored}
+use Rattle.tables.specs.Code.{place, noneMark, lesser, leastOf, placeOf, ChoiceOf, betterOf}
 
 -- The place of a cell.
 pub place-is : (S t : ℕ) → S < 512 → t < 8 → (8 * S + t ≡ place S t) × (8 * S + t < 4096)

@@ -1,15 +1,15 @@
 -- The figures that the loops keep are the figures of the costs: the least of figures that show costs is the figure of the least cost, at the
 -- same place. A sum with none is no less than the figure of none, so it is never kept, and no sum of numbers comes near it.
-use Prim.Native.Nat.{ℕ, zero, suc, _+_, _^_, _≤_, _<_}
+use Prim.Native.Nat.{ℕ, zero, suc, _+_, _≤_, _<_}
 use native.Mathlib.Nat.{le-refl}
 use native.Mathlib.Omega.{arith}
-use mathlib.Core.Path.{_≡_, refl, sym, ap, _∙_}
+use mathlib.Core.Path.{_≡_, refl, ap, _∙_}
 use mathlib.Core.Bool.{Bool, true, false}
 use lib.Dec.{ltb}
 use borrow.Author.Tests.{lt-ltb, le-ltb}
 use Rattle.query.specs.Choice.{pick}
 use Rattle.query.specs.Cost.{Cost, none, some, both, plus}
-use Rattle.tables.specs.Least.{Best, better, best, least, lowestAt}
+use Rattle.tables.specs.Least.{Best, better, best, least}
 use Rattle.tables.specs.Code.{noneMark, mark, lesser, leastOf, placeOf}
 
 -- A cost that is at most n, or none; and a figure for such a cost, which for none need only be no less than that of none.

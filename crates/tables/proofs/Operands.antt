@@ -1,20 +1,16 @@
 -- Laws of a join's operands: where a read is spared, each way through the look-up as a case of the definition, and what a trial comes to.
-use Prim.Native.Nat.{ℕ, zero, suc, _+_, _-_, _*_, _^_, _≤_, _<_}
+use Prim.Native.Nat.{ℕ, _+_, _*_, _^_, _≤_}
 use native.Mathlib.Nat.{le-refl}
 use native.Mathlib.Omega.{arith}
-use mathlib.Core.Path.{_≡_, refl, sym, ap, _∙_}
-use mathlib.Core.Bool.{Bool, true, false}
+use mathlib.Core.Path.{_≡_}
 use mathlib.Core.List.{List}
-use lib.ListN.{length, getD}
-use lib.Bits.{bitAnd, and-le-l}
+use lib.ListN.{getD}
 use lib.Count.{ones, trailingZeros}
 use lib.Dec.{eqb}
-use borrow.Author.Tests.{eq-eqb, ne-eqb, eqb-true}
-use Rattle.query.specs.Choice.{pick}
+use borrow.Author.Tests.{eq-eqb, ne-eqb}
 use Rattle.query.specs.Prices.{reads}
-use Rattle.tables.specs.declared.splitting.Operand.{Operand}
 use Rattle.tables.specs.declared.splitting.Split.{Split}
-use Rattle.tables.specs.Code.{place, noneMark, sparedAt, operandOf, splitOf, trialOf, carriageAt}
+use Rattle.tables.specs.Code.{place, noneMark, sparedAt, trialOf, carriageAt}
 
 module _ (homes indexes : List ℕ) (S : ℕ) where
   pub spared-many : (ones S ≡ 1 → ⊥) → 8 ≡ sparedAt homes indexes S

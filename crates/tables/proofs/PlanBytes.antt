@@ -2,26 +2,23 @@
 -- join, and each written piece is the definition's.
 use Prim.Native.Nat.{ℕ, _+_, _-_, _^_, _≤_, _<_}
 use native.Mathlib.Omega.{arith}
-use mathlib.Core.Path.{_≡_, refl, sym, ap, subst, _∙_}
+use mathlib.Core.Path.{_≡_, sym, ap, subst, _∙_}
 use mathlib.Core.List.{List, [], _∷_, _++_}
 use lib.Bits.{bitAnd}
 use lib.Count.{ones, trailingZeros}
 use lib.ListN.{getD}
 use borrow.Author.Tests.{eq-eqb, ne-eqb}
-use Rattle.relations.specs.Trees.{Subquery}
-use Rattle.relations.specs.Theorems.{Split}
 use Rattle.relations.proofs.Connected.{subquery-range}
 use Rattle.query.specs.declared.Query.{Query}
 use Rattle.query.specs.Query.{Valid, relationsOf, sitesOf, home}
-use Rattle.query.specs.Cost.{some}
 use Rattle.tables.specs.declared.cells.Choice.{Choice}
-use Rattle.tables.specs.Tables.{firstPart, otherPart, only, delivered, joined}
-use Rattle.tables.specs.Plan.{sendIfDue, bestSite, bestJoin, joinedSteps, deliveredSteps, writtenDelivered, writtenJoined, stepBytes, loadStep, joinStep}
-use Rattle.tables.specs.Code.{Lent, joinTrial, Joinable, Row, joinedBelow, permittedAt, siteTrial, placeOf, ChoiceOf, Marked, Filled, Wrote, Known, ToDeliver, ToJoin}
-use Rattle.tables.proofs.Tables.{ones-some, BySite, ByJoin, delivered-found, joined-found}
+use Rattle.tables.specs.Tables.{firstPart, otherPart}
+use Rattle.tables.specs.Plan.{sendIfDue, bestSite, bestJoin, joinedSteps, deliveredSteps, writtenDelivered, writtenJoined, stepBytes, joinStep}
+use Rattle.tables.specs.Code.{joinTrial, Joinable, Row, joinedBelow, permittedAt, siteTrial, placeOf, ChoiceOf, Marked, Filled, Wrote, Known, ToDeliver, ToJoin}
+use Rattle.tables.proofs.Tables.{ones-some, ByJoin, delivered-found, joined-found}
 use Rattle.tables.proofs.Written.{written-is}
 use Rattle.tables.proofs.Carried.{only-is}
-use Rattle.tables.proofs.Columns.{lentBy, set-low, joinable, joins-kept, row-joined, row-marked, sites-kept, part-is}
+use Rattle.tables.proofs.Columns.{lentBy, joinable, joins-kept, row-joined, row-marked, sites-kept, part-is}
 use Rattle.tables.proofs.Stores.{step-bytes-append, wrote-none}
 
 module _ (q : Query) (around work : List ℕ) (S : ℕ) (k : Known q around work S) where

@@ -1,5 +1,5 @@
 -- Sets in ascending number: each set leaves the cells of every subquery below the next set filled, the later cells as they were, and the joins counted.
-use Prim.Native.Nat.{ℕ, zero, suc, _+_, _-_, _*_, _^_, _≤_, _<_, zero-le}
+use Prim.Native.Nat.{ℕ, zero, suc, _+_, _-_, _*_, _^_, _≤_, _<_}
 use native.Mathlib.Nat.{le-refl, le-of-suc-le-suc, eq-or-lt-of-le, le-antisymm}
 use native.Mathlib.Numerals.{add-one}
 use native.Mathlib.Omega.{arith}
@@ -12,14 +12,13 @@ use lib.ListN.{length, getD, drop, length-drop}
 use lib.Seq.{ext-getD, getD-drop}
 use Rattle.relations.specs.declared.Joins.{Joins}
 use Rattle.relations.specs.Trees.{isSubquery, Subquery, Tree}
-use Rattle.relations.specs.Code.{Drawn, SidesOf}
+use Rattle.relations.specs.Code.{Drawn}
 use Rattle.relations.proofs.Counts.{ones-zero, one-some, lowest-below}
 use Rattle.relations.proofs.Connected.{subquery-range}
 use Rattle.relations.proofs.Leads.{never-both}
 use Rattle.query.specs.declared.Query.{Query}
 use Rattle.query.specs.Choice.{pick}
 use Rattle.query.specs.Query.{Valid, relationsOf, sitesOf, home}
-use Rattle.query.specs.Prices.{carriage}
 use Rattle.tables.specs.Tables.{only, delivered, joined, joinsBelow}
 use Rattle.tables.specs.Code.{place, mark, carriageAt, deliveredAt, Priced, Stored, Filled, FilledFrom}
 use Rattle.tables.proofs.Tables.{ones-some, delivered-one}

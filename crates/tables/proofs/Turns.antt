@@ -1,22 +1,21 @@
 -- Each turn of a loop over sites or joins keeps what the loop has shown so far, and after the last turn it is what the function promises.
-use Prim.Native.Nat.{ℕ, zero, suc, _+_, _-_, _*_, _^_, _≤_, _<_}
+use Prim.Native.Nat.{ℕ, _+_, _^_, _≤_, _<_}
 use native.Mathlib.Numerals.{add-one}
 use native.Mathlib.Nat.{le-antisymm}
 use native.Mathlib.Omega.{arith}
-use mathlib.Core.Path.{_≡_, refl, sym, ap, _∙_}
-use mathlib.Core.Bool.{Bool, true, false}
+use mathlib.Core.Path.{_≡_, refl, ap, _∙_}
+use mathlib.Core.Bool.{true, false}
 use mathlib.Core.List.{List}
 use lib.ListN.{length, getD, set, length-set, replicate, getD-replicate}
-use lib.Bits.{bitAnd}
 use lib.Seq.{getD-set-same, getD-set-other}
 use lib.Dec.{eqb}
-use borrow.Author.Tests.{eq-eqb, ne-eqb, le-ltb}
+use borrow.Author.Tests.{eq-eqb, ne-eqb}
 use borrow.Author.Count.{below-more}
 use Rattle.relations.specs.Sets.{bit}
 use Rattle.query.specs.Choice.{pick}
 use Rattle.tables.specs.declared.cells.Choice.{Choice}
 use Rattle.tables.specs.declared.splitting.Split.{Split}
-use Rattle.tables.specs.Code.{place, noneMark, lesser, leastOf, placeOf, ChoiceOf, betterOf, trialOf, splitOf, splitBy, Lent, joinIn, joinTrial, Triable, Joinable, Row, Tried, joinedBelow, permittedAt, carriageAt, siteTrial, deliveredAt, Marked, Stored}
+use Rattle.tables.specs.Code.{place, noneMark, lesser, leastOf, placeOf, ChoiceOf, betterOf, trialOf, splitBy, Lent, joinIn, joinTrial, Triable, Joinable, Row, Tried, joinedBelow, permittedAt, carriageAt, siteTrial, deliveredAt, Stored}
 use Rattle.tables.proofs.Figures.{place-apart, lesser-kept, least-most, choice-more, choice-same}
 
 -- A row, filled from its first site on.

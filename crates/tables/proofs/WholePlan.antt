@@ -1,8 +1,8 @@
 -- The whole plan: all relations at the query site, at most 34 steps, so 69 bytes are room enough; its count goes before its steps.
-use Prim.Native.Nat.{ℕ, _+_, _-_, _*_, _/_, _^_, _≤_, _<_}
+use Prim.Native.Nat.{ℕ, _+_, _-_, _/_, _^_, _≤_}
 use native.Mathlib.Omega.{arith}
-use mathlib.Core.Path.{_≡_, refl, sym, ap, subst, _∙_}
-use mathlib.Core.List.{List, _∷_, _++_}
+use mathlib.Core.Path.{_≡_, sym, ap, subst, _∙_}
+use mathlib.Core.List.{List, _++_}
 use lib.ListN.{length, drop, set}
 use Rattle.relations.specs.Sets.{all}
 use Rattle.relations.specs.Code.{SidesOf}
@@ -10,9 +10,9 @@ use Rattle.relations.proofs.Subqueries.{subqueries-law}
 use Rattle.query.specs.declared.Query.{Query}
 use Rattle.query.specs.Query.{Valid, relationsOf}
 use Rattle.query.specs.Cost.{some}
-use Rattle.tables.specs.Tables.{delivered, cheapest}
+use Rattle.tables.specs.Tables.{cheapest}
 use Rattle.tables.specs.Plan.{writtenDelivered, writtenSteps, stepBytes, written}
-use Rattle.tables.specs.Code.{Filled, Wrote, Known, ToDeliver}
+use Rattle.tables.specs.Code.{Filled, Wrote, ToDeliver}
 use Rattle.tables.proofs.Upper.{written-law}
 use Rattle.tables.proofs.Optimum.{plus-combines}
 use Rattle.tables.proofs.Stores.{step-bytes-long, plan-stored}

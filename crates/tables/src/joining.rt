@@ -12,7 +12,7 @@ ghost use mathlib.Core.Path.{_≡_};
 ghost use lib.Dec.{eqb};
 ghost use lib.ListN.{length};
 ghost use Rattle.query.specs.Choice.{pick};
-ghost use Rattle.tables.specs.Code.{noneMark, Triable, trialOf, Tried, Lent, lent, Joinable, Row, joinedBelow, joinTrial, permittedAt, placeOf};
+ghost use Rattle.tables.specs.Code.{noneMark, Triable, trialOf, Tried, lent, Joinable, Row, joinedBelow, joinTrial, permittedAt, placeOf};
 
 // The row with the figures of one join where they are less.
 fn try_sites<'a>(

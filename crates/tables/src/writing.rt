@@ -12,7 +12,6 @@ use relations::whole;
 ghost use Prim.Native.Nat.{ℕ, _+_, _^_, _≤_, _<_};
 ghost use mathlib.Core.Path.{_≡_};
 ghost use mathlib.Core.List.{[], _∷_, _++_};
-ghost use lib.Count.{ones};
 ghost use lib.ListN.{length, drop};
 ghost use Rattle.query.specs.Query.{Valid, relationsOf, sitesOf};
 ghost use Rattle.query.specs.Cost.{some};

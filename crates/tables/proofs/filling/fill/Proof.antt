@@ -8,8 +8,8 @@ use Rattle.tables.proofs.Tables.{ones-some}
 use lib.ListN.{length, getD}
 use lib.Count.{ones-le}
 use lib.Pow.{pow-pos}
-use mathlib.Core.Path.{_≡_, refl, sym, ap, _∙_}
-use Rattle.tables.proofs.Columns.{lentBy, set-low, joinable, row-joined, row-marked, delivered-figure}
+use mathlib.Core.Path.{_≡_, refl}
+use Rattle.tables.proofs.Columns.{set-low, joinable, row-joined, row-marked}
 use Rattle.tables.proofs.SetsFilled.{Going, tree-here, drawn-here, subquery-here, end-here, priced-here, home-here, joins-most, going-start, going-skip, going-joined, going-bare, going-done}
 use Prim.Native.Nat.{ℕ, _+_, _-_, _^_, _≤_, _<_}
 use native.Mathlib.Omega.{arith}

@@ -1,11 +1,10 @@
 -- `joining::best_join` meets its contract: each turn weighs one join more. Assumes nothing.
-use Prim.Native.Nat.{_+_, _-_, _≤_, _<_}
+use Prim.Native.Nat.{_-_, _≤_}
 use Rattle.tables.proofs.Figures.{choice-none}
 use Rattle.tables.proofs.Turns.{join-in, join-out, join-triable, join-better, join-worse, choice-at}
 use Rattle.tables.specs.Code.{Lent, lent, joinIn, ChoiceOf, joinTrial}
 use borrow.Author.Needs.{needs}
 use lib.Bits.{and-le-l}
-use lib.ListN.{length}
 use mathlib.Core.Path.{_≡_}
 use mathlib.Core.Bool.{true}
 use native.Mathlib.Omega.{arith}

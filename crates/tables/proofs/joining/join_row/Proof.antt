@@ -1,13 +1,11 @@
 -- `joining::join_row` meets its contract: each turn tries one join more. Assumes nothing.
-use Prim.Native.Nat.{_+_, _-_, _≤_, _<_}
+use Prim.Native.Nat.{_-_, _≤_}
 use Rattle.tables.proofs.Turns.{join-in, join-out, joined-none, joined-more, joined-same, join-triable, row-same}
 use Rattle.tables.specs.Code.{Lent, lent, joinIn, Row, joinedBelow}
 use borrow.Author.Needs.{needs}
 use lib.Bits.{and-le-l}
-use lib.ListN.{length}
 use mathlib.Core.Path.{_≡_}
 use mathlib.Core.Bool.{true}
-use native.Mathlib.Omega.{arith}
 use Rattle.tables.proofs.joining.join_row.Statement.{statement}
 use Rattle.tables.proofs.joining.join_row.Tie as tie
 

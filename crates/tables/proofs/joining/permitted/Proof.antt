@@ -1,11 +1,8 @@
 -- `joining::permitted` meets its contract: each turn settles one site more. Assumes nothing.
-use Prim.Native.Nat.{_+_, _-_, _≤_, _<_}
+use Prim.Native.Nat.{_-_, _≤_}
 use Rattle.tables.proofs.Turns.{row-none, row-more, row-done, permitted-at}
 use Rattle.tables.specs.Code.{Row, permittedAt}
 use borrow.Author.Needs.{needs}
-use lib.ListN.{length}
-use mathlib.Core.Path.{_≡_}
-use native.Mathlib.Omega.{arith}
 use Rattle.tables.proofs.joining.permitted.Statement.{statement}
 use Rattle.tables.proofs.joining.permitted.Tie as tie
 

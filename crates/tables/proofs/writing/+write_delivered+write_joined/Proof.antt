@@ -1,11 +1,11 @@
 -- `write_delivered` and `write_joined` write the steps of their definitions: each call is on fewer relations, or on the same with the join left to write.
 use Rattle.tables.specs.Plan.{stepBytes, sendIfDue, writtenDelivered, writtenJoined}
-use lib.ListN.{length, getD, length-append}
+use lib.ListN.{getD, length-append}
 use lib.Bits.{bitAnd}
 use mathlib.Core.List.{List, [], _∷_, _++_}
 use mathlib.Core.Path.{_≡_, refl}
 use Rattle.tables.proofs.PlanBytes.{low, one-bytes, more-join, more-bytes, Parted, parted}
-use Rattle.tables.proofs.Stores.{wrote-then, wrote-long, room-first, room-next}
+use Rattle.tables.proofs.Stores.{wrote-then, room-first, room-next}
 use Rattle.tables.proofs.Columns.{set-low}
 use lib.Count.{ones}
 use native.Mathlib.Omega.{arith}

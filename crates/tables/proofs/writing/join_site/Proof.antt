@@ -3,7 +3,6 @@ use Rattle.tables.proofs.SetsFilled.{priced-here}
 use Rattle.tables.proofs.Columns.{set-low}
 use Rattle.tables.proofs.PlanBytes.{low, known-joinable, known-marked, site-is}
 use native.Mathlib.Omega.{arith}
-use borrow.Author.Needs.{needs}
 use Rattle.tables.proofs.writing.join_site.Statement.{statement}
 use Rattle.tables.proofs.writing.join_site.Tie as tie
 

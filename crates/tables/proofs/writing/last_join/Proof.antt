@@ -1,7 +1,5 @@
 -- `writing::last_join` meets its contract: the lowest join of the least figure is the best join. Assumes nothing.
 use Rattle.tables.proofs.PlanBytes.{joinable-at, join-is}
-use borrow.Author.Needs.{needs}
-use native.Mathlib.Omega.{arith}
 use Rattle.tables.proofs.writing.last_join.Statement.{statement}
 use Rattle.tables.proofs.writing.last_join.Tie as tie
 
