@@ -12,8 +12,12 @@ use Rattle.relations.specs.Growth.{first, second, inside, leads, along}
 use Rattle.relations.proofs.Bits.{bit-le, bit-put, bit-pow, sub-single, put-old}
 use Rattle.relations.proofs.Counts.{ones-put}
 
+-- Two constructors that are equal would make 0 equal 1.
+pub clash : _≡_ {A = ℕ} 0 1 → ⊥
+clash z = omega arith
+
 pub never-both : (t : Bool) → t ≡ true → t ≡ false → ⊥
-never-both t p q = let lie : _≡_ {A = ℕ} 0 1 = cc in omega arith
+never-both t p q = clash (cc)
 
 pub both-true : (a b : Bool) → (a && b) ≡ true → (a ≡ true) × (b ≡ true)
 both-true true b e = (refl, e)

@@ -13,7 +13,7 @@ use borrow.Author.Tests.{ltb-true, eqb-true, not-true}
 use Rattle.relations.specs.Sets.{bit}
 use Rattle.relations.proofs.Bits.{single-apart}
 use Rattle.relations.proofs.Counts.{ones-more}
-use Rattle.relations.proofs.Leads.{both-true}
+use Rattle.relations.proofs.Leads.{both-true, clash}
 use Rattle.relations.proofs.Unions.{sum-below}
 use Rattle.query.specs.declared.Query.{Query}
 use Rattle.query.specs.Query.{Valid, relationsOf, sitesOf, mayJoin, isOpen}
@@ -38,7 +38,7 @@ slack-low Joined = omega arith
 
 slack-unsent : (o : Origin) → isSent o ≡ false → slack o ≡ 5_000_003_000_000
 slack-unsent Bare e = refl
-slack-unsent Sent e = absurd (let lie : _≡_ {A = ℕ} 0 1 = cc in omega arith)
+slack-unsent Sent e = absurd (clash (cc))
 slack-unsent Joined e = refl
 
 pub start-room : (n : ℕ) → Room n start

@@ -11,6 +11,7 @@ use lib.Count.{ones, ones-le, trailingZeros}
 use lib.ListN.{length, getD, drop, length-drop}
 use lib.Seq.{ext-getD, getD-drop}
 use Rattle.relations.specs.declared.Joins.{Joins}
+use Rattle.relations.specs.Sets.{all}
 use Rattle.relations.specs.Trees.{isSubquery, Subquery, Tree}
 use Rattle.relations.specs.Code.{Drawn}
 use Rattle.relations.proofs.Counts.{ones-zero, one-some, lowest-below}
@@ -74,6 +75,9 @@ module _ (q : Query) (v : Valid q) where
 
   not-here : (S : ℕ) (d : Bool) → d ≡ isSubquery (q .joins) (q .joins .count + 1) S → d ≡ false → isSubquery (q .joins) (relationsOf q) S ≡ false
   not-here S d e t = subst (λ (n : ℕ). isSubquery (q .joins) n S ≡ false) (v .tree .joins) (sym e ∙ t)
+
+  pub all-here : (S : ℕ) → S ≡ all (q .joins .count + 1) → S ≡ all (relationsOf q)
+  all-here S e = e ∙ ap all (v .tree .joins)
 
   pub end-here : (e : ℕ) → e ≡ 2 ^ (q .joins .count + 1) → e ≡ 2 ^ relationsOf q
   end-here e h = h ∙ ap (λ (n : ℕ). 2 ^ n) (v .tree .joins)
@@ -167,10 +171,10 @@ module _ (q : Query) (v : Valid q) where
 -- After the last set every subquery is filled.
 pub going-done : (q : Query) (old work : List ℕ) (S r e : ℕ) → Going q old work S r → S ≤ e → e ≤ S → e ≡ 2 ^ relationsOf q → FilledFrom q old work r
 going-done q old work S r e g h k is =
-    let all : S ≡ 2 ^ relationsOf q = le-antisymm h k ∙ is in
+    let last : S ≡ 2 ^ relationsOf q = le-antisymm h k ∙ is in
     record {
-      cells = subst (λ (m : ℕ). Filled q work m) all (g .cells);
+      cells = subst (λ (m : ℕ). Filled q work m) last (g .cells);
       long = g .long;
       later = g .later;
-      joins = g .joins ∙ ap (joinsBelow (q .joins) (relationsOf q)) all;
+      joins = g .joins ∙ ap (joinsBelow (q .joins) (relationsOf q)) last;
     }
