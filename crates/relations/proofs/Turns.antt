@@ -8,7 +8,7 @@ use native.Mathlib.Omega.{arith}
 use borrow.Author.Count.{below-more}
 use lib.Count.{ones}
 use lib.Dec.{eqb, ltb}
-use lib.ListN.{getD, set, length-set}
+use lib.ListN.{length, getD, set, length-set}
 use lib.Pow.{pow-mono}
 use lib.Seq.{getD-set-same, getD-set-other}
 use Rattle.relations.specs.declared.Joins.{Joins}
@@ -47,16 +47,16 @@ subqueries-more J n S m r d p q h = cc (add-one S, subqueries-next J n S)
 pub subquery-test : (J : Joins) (n S k : ℕ) → Tree J n → S < 2 ^ n → k ≡ joinsIn J S (J .count) → (ltb 0 S && eqb (k + 1) (ones S)) ≡ isSubquery J n S
 subquery-test J n S k t h q = sym (subquery-by-count J n t S h ∙ ap (λ (m : ℕ). ltb 0 S && eqb (m + 1) (ones S)) (sym q))
 
+-- A list that has g at the places below k, with g stored at k.
+pub set-next :
+    (l : List ℕ) (g : ℕ → ℕ) (k v : ℕ) → k < length l → ((i : ℕ) → i < k → getD l i 0 ≡ g i) → v ≡ g k → (i : ℕ) → i < k + 1 → getD (set l k v) i 0 ≡ g i
+set-next l g k v long below here =
+    below-more (λ (i : ℕ). getD (set l k v) i 0 ≡ g i) k (λ i h. getD-set-other l k i v 0 (λ q. omega arith) ∙ below i h) (getD-set-same l k v 0 long ∙ here)
+
 -- One side more.
 pub sides-more : (J : Joins) (l : List ℕ) (e v : ℕ) → Drawn J → e < J .count → SidesOf J l e → v ≡ side J (J .count + 1) e → SidesOf J (set l e v) (e + 1)
 sides-more J l e v d h s q =
-    record {
-      eight = length-set l e v ∙ s .eight;
-      each =
-          below-more (λ (i : ℕ). getD (set l e v) i 0 ≡ side J (J .count + 1) i) e
-          (λ i k. getD-set-other l e i v 0 (omega arith) ∙ s .each i k)
-          (getD-set-same l e v 0 (omega (arith, s .eight, d .few)) ∙ q);
-    }
+    record { eight = length-set l e v ∙ s .eight; each = set-next l (side J (J .count + 1)) e v (omega (arith, s .eight, d .few)) (s .each) q }
 
 pub sides-done : (J : Joins) (l : List ℕ) (e : ℕ) → SidesOf J l e → J .count ≤ e → SidesOf J l (J .count)
 sides-done J l e s h = record { eight = s .eight; each = λ i k. s .each i (omega arith) }
