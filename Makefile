@@ -1,12 +1,21 @@
-# make plan    prove the listing program and what stands below it, and run it on Q of document 01
-# make test    every test; it ends in rt's own line 'N passed, 0 failed'
+# make plan       prove the listing program and what stands below it, and run it on Q of document 01
+# make test       every test; it ends in rt's own line 'N passed, 0 failed'
+# make outside    only the tests from outside, over the built programs and the archive
+# make bench      solve and the whole C call beside plain C
 
-.PHONY: plan test
+.PHONY: plan test outside bench
 
 plan:
-	rt check plan >/dev/null
-	target/bin/plan <examples/q.query
+	@rt check plan >/dev/null
+	@target/bin/plan <examples/q.query
+
+outside:
+	tests/outside.sh
+
+bench:
+	bench/run.sh
 
 test:
 	rt fmt --check
+	tests/outside.sh
 	rt ci

@@ -66,5 +66,13 @@ pub(crate) fn at_most(n: u64, most: usize) -> usize
 pub(crate) fn fill(buffer: &mut [u8], n: usize) -> bool
     requires { ⌜ n ≤ length (now buffer) ⌝ }
 {
-    io::read_full(STDIN_FILENO, &mut buffer[..n]) == n
+    io::read_full(STDIN_FILENO, &mut buffer[0..n]) == n
+}
+
+// The front of a buffer, or all of a shorter one.
+pub(crate) fn front(buffer: &[u8], n: usize) -> &[u8] {
+    if n < buffer.len() {
+        return &buffer[0..n];
+    }
+    buffer
 }

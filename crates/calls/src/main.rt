@@ -1,5 +1,7 @@
 // Runs a script of calls from standard input, one after the other on one planner, and prints a line each.
+mod answers;
 mod input;
+mod lent;
 mod output;
 mod turns;
 

@@ -1,7 +1,7 @@
 // Lines of the answers.
+use crate::input::front;
 use libc::STDOUT_FILENO;
 ghost use Prim.Native.Nat.{_≤_};
-ghost use lib.ListN.{length};
 
 pub(crate) fn text(word: &[u8]) {
     io::write_all(STDOUT_FILENO, word);
@@ -30,15 +30,17 @@ fn digit(d: u8) -> u8 {
     if low < 10 { 48 + low } else { 87 + low }
 }
 
-// The bytes of a buffer's front in hexadecimal.
-pub(crate) fn hex(buffer: &[u8], n: usize) {
+// The first bytes of an output in hexadecimal.
+pub(crate) fn hex(bytes: &[u8; 4096], n: usize)
+    requires { ⌜ n ≤ 4096 ⌝ }
+{
     let mut digits = [0u8; 8192];
     let mut i = 0;
-    while i < n && i < 4096 && i < buffer.len() {
-        let b = buffer[i];
+    while i < n {
+        let b = bytes[i];
         digits[2 * i] = digit(b / 16);
         digits[2 * i + 1] = digit(b);
         i += 1;
     }
-    io::write_all(STDOUT_FILENO, &digits[..2 * i]);
+    io::write_all(STDOUT_FILENO, front(&digits, 2 * n));
 }

@@ -1,5 +1,5 @@
 -- The promise, whole: a claim over every list of load, link, solve, read and check calls, refused ones included, that starts from an empty
--- planner and ends in an admitted solve. Proved in proofs/Claim.antt.
+-- planner and ends in an admitted solve. Proved in proofs/Promise.antt.
 use Prim.{tt}
 use Prim.Native.Nat.{ℕ, _+_, _≤_}
 use mathlib.Core.Path.{_≡_}

@@ -18,7 +18,7 @@ use Rattle.planner.specs.declared.AfterLink.{AfterLink}
 use Rattle.planner.specs.declared.AfterSolve.{AfterSolve}
 use Rattle.planner.specs.declared.ReadAnswer.{ReadAnswer}
 use Rattle.planner.specs.declared.CheckAnswer.{CheckAnswer}
-use Rattle.planner.specs.Calls.{Link, linkOf, sitesListed, termsInRange, relined}
+use Rattle.planner.specs.Calls.{Link, linkOf, sitesListed, termsInRange, relinedBy}
 use Rattle.planner.proofs.empty.Reads as Empty
 use Rattle.planner.proofs.load.Reads as Load
 use Rattle.planner.proofs.link.Reads as Link-reads
@@ -42,7 +42,7 @@ afterLoad (value q l) o = some q
 -- An admitted link replaces the line from its sender to its receiver in the query in force.
 abbrev pub afterLink : Link → Option Query → Option Query
 afterLink l none = none
-afterLink l (some q) = pick (sitesListed (sitesOf q) (l .sender) (l .receiver)) (pick (termsInRange (l .terms)) (some (relined q l)) (some q)) (some q)
+afterLink l (some q) = pick (sitesListed (sitesOf q) (l .sender) (l .receiver)) (pick (termsInRange (l .terms)) (some (relinedBy q l)) (some q)) (some q)
 
 -- Solve, read, check and every refused call leave it as it is.
 abbrev pub force : Call → Option Query → Option Query

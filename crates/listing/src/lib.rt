@@ -1,8 +1,14 @@
-// The listing of an answer, as document 01 prints it: in decimal, a line for the answer and one for each step.
+// The listing of a query file's answer, as document 01 prints it: in decimal, a line for the answer and one for each step.
 // Each function answers how many lines it wrote; what the lines say is held to stored outputs.
 use libc::STDOUT_FILENO;
+use planner::LoadAnswer;
+use planner::Planner;
+use planner::ReadAnswer;
+use planner::SolveAnswer;
+use query::Charge;
 ghost use Prim.Native.Nat.{_≤_, _<_};
 ghost use mathlib.Core.Path.{_≡_};
+ghost use Rattle.planner.specs.Contracts.{Sound};
 
 // A word, a number and what stands behind it.
 fn put(word: &[u8], n: u64, end: &[u8]) {
@@ -12,7 +18,7 @@ fn put(word: &[u8], n: u64, end: &[u8]) {
 }
 
 // `refused 4`
-pub fn refused(number: u64) -> usize
+fn refused(number: u64) -> usize
     ensures { λ r. ⌜ r ≡ 1 ⌝ }
 {
     put(b"refused ", number, b"\n");
@@ -20,7 +26,7 @@ pub fn refused(number: u64) -> usize
 }
 
 // `no route trials 3`
-pub fn no_route(trials: u64) -> usize
+fn no_route(trials: u64) -> usize
     ensures { λ r. ⌜ r ≡ 1 ⌝ }
 {
     put(b"no route trials ", trials, b"\n");
@@ -61,7 +67,7 @@ fn steps(plan: &[u8], count: usize)
 }
 
 // `plan 4 cost 24 trials 3`, then each step. The plan is a count byte and its steps.
-pub fn plan(plan: &[u8], cost: u64, trials: u64) -> usize
+fn plan(plan: &[u8], cost: u64, trials: u64) -> usize
     ensures { λ r. ⌜ (1 ≤ r) × (r ≤ 256) ⌝ }
 {
     let count = wide(byte_at(plan, 0));
@@ -70,4 +76,47 @@ pub fn plan(plan: &[u8], cost: u64, trials: u64) -> usize
     put(b" trials ", trials, b"\n");
     steps(plan, count);
     count + 1
+}
+
+// Reads the kept plan and prints it.
+fn read(p: Planner, cost: Charge, trials: u64) -> usize
+    requires { ⌜ Sound p ⌝ }
+    ensures { λ r. ⌜ 1 ≤ r ⌝ }
+{
+    let mut bytes = [0u8; 69];
+    let a = planner::read(p, &mut bytes);
+    match a {
+        ReadAnswer::Refused(k) => refused(k),
+        ReadAnswer::Wrote { length: _, cost: _ } => plan(&bytes, cost.0, trials),
+    }
+}
+
+// Solves the standing query and prints the answer.
+fn solve(p: Planner) -> usize
+    requires { ⌜ Sound p ⌝ }
+    ensures { λ r. ⌜ 1 ≤ r ⌝ }
+{
+    let mut cells = [0u64; 4096];
+    let solved = planner::solve(p, &mut cells);
+    let a = solved.answer;
+    match a {
+        SolveAnswer::Refused(k) => refused(k),
+        SolveAnswer::NoRoute { trials } => no_route(trials),
+        SolveAnswer::Found { cost, trials } => read(solved.planner, cost, trials),
+    }
+}
+
+// Prints the cheapest plan of a query file, no route, or the refusal.
+pub fn list(file: &[u8]) -> usize
+    ensures { λ r. ⌜ 1 ≤ r ⌝ }
+{
+    let loaded = planner::load(planner::empty(), file);
+    let a = loaded.answer;
+    match a {
+        LoadAnswer::Refused(k) => refused(k),
+        LoadAnswer::Loaded {
+            relations: _,
+            subqueries: _,
+        } => solve(loaded.planner),
+    }
 }

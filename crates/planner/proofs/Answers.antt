@@ -17,7 +17,7 @@ use Rattle.query.specs.declared.decoding.Decoded.{Decoded}
 use Rattle.query.specs.Fields.{Read, value}
 use Rattle.query.specs.Fields as fields
 use Rattle.query.specs.Code.{decodedOf}
-use Rattle.query.proofs.Valid.{decode-valid}
+use Rattle.query.proofs.Valid.{decoded-valid}
 use Rattle.rules.specs.declared.Checked.{Checked}
 use Rattle.rules.specs.declared.Checked.the-variants.{Accepted, Rejected}
 use Rattle.rules.specs.Plans.{checked}
@@ -26,7 +26,7 @@ use Rattle.query.specs.Decode.{Terms, decode}
 use Rattle.query.specs.Query.{Valid, sitesOf}
 use Rattle.query.proofs.Linked.{linked-valid}
 use Rattle.planner.specs.declared.Planner.{Planner}
-use Rattle.planner.specs.Calls.{doneWith, loaded, linked, wrote, allowed, refused, refusing, standing, loadDecoded, load, Link, link, sitesListed, termsInRange, relined, unread, readingOf, read, check}
+use Rattle.planner.specs.Calls.{doneWith, loaded, linked, wrote, allowed, refused, refusing, standing, loadDecoded, load, Link, link, sitesListed, termsInRange, relinedBy, unread, readingOf, read, check}
 use Rattle.planner.specs.State.{State}
 use Rattle.planner.specs.Contracts.{stateOf, doneOf, Sound}
 
@@ -45,7 +45,7 @@ module _ (p : Planner) (l : Link) (loaded : p .loaded ≡ true) (t : Bool) (list
     link-out n = rw (loaded, ← listed, both-listed, ← ranged, n)
 
     -- The planner after an admitted link: the query has the line, and no plan is kept.
-    pub link-goes : (r : Planner) → u ≡ true → r .loaded ≡ true → r .kept ≡ false → r .query ≡ relined (p .query) l → doneOf linked r ≡ link l (stateOf p)
+    pub link-goes : (r : Planner) → u ≡ true → r .loaded ≡ true → r .kept ≡ false → r .query ≡ relinedBy (p .query) l → doneOf linked r ≡ link l (stateOf p)
     unfolding link
     link-goes r in-range h k m = rw (loaded, ← listed, both-listed, ← ranged, in-range, h, k, m)
 
@@ -57,7 +57,7 @@ terms-fair t e =
 
 pub link-sound :
     (p r : Planner) (l : Link) → Sound p → p .loaded ≡ true → (u : Bool) → u ≡ termsInRange (l .terms) → u ≡ true → r .length ≡ p .length →
-    r .query ≡ relined (p .query) l → Sound r
+    r .query ≡ relinedBy (p .query) l → Sound r
 link-sound p r l s e u ranged in-range h m =
     let fair = terms-fair (l .terms) (sym ranged ∙ in-range) in
     record {
@@ -129,10 +129,6 @@ whole-load :
 whole-load (fields.refused j) s e = absurd (let z : _≡_ {A = ℕ} 0 1 = cc in omega arith)
 whole-load (value q l) s e = refl
 
-whole-valid : (x : Read Query) → ((q : Query) (l : List ℕ) → x ≡ value q l → Valid q) → decodedOf x .outcome ≡ Outcome.Whole → Valid (decodedOf x .query)
-whole-valid (fields.refused j) v e = absurd (let z : _≡_ {A = ℕ} 0 1 = cc in omega arith)
-whole-valid (value q l) v e = v q l refl
-
 module _ (p : Planner) (file : List ℕ) (d : Decoded) (decoded : d ≡ decodedOf (decode file)) where
   pub load-refused : (k : ℕ) → d .outcome ≡ Outcome.Refused k → doneOf (refused k 0) p ≡ load file (stateOf p)
   unfolding load
@@ -146,7 +142,7 @@ module _ (p : Planner) (file : List ℕ) (d : Decoded) (decoded : d ≡ decodedO
 
     pub load-sound : Sound p → r .length ≡ p .length → Sound r
     load-sound s h = record {
-      valid = λ _. rw (r-query, decoded) (whole-valid (decode file) (decode-valid file) (rw decoded at whole));
+      valid = λ _. rw r-query (decoded-valid file d decoded whole);
       short = rw h (s .short);
     }
 

@@ -12,8 +12,8 @@ use Rattle.query.specs.Choice.{pick}
 use Rattle.query.specs.Cost.{Cost}
 use Rattle.query.specs.Fields.{Read, value}
 use Rattle.query.specs.Fields as fields
-use Rattle.query.specs.Decode.{Terms, withLine, decode}
-use Rattle.query.specs.Query.{relationsOf, sitesOf}
+use Rattle.query.specs.Decode.{Terms, decode}
+use Rattle.query.specs.Query.{relationsOf, sitesOf, relined}
 use Rattle.rules.specs.Plans.{Verdict, accepted, rejected, checked}
 use Rattle.tables.specs.Tables.{cheapest, trials}
 use Rattle.tables.specs.Plan.{written}
@@ -70,22 +70,14 @@ unfoldable pub termsInRange : Terms → Bool
 termsInRange t = (leb (t .flag) 1 && leb (t .fixed) 1_000_000) && leb (t .rate) 1_000
 
 -- The query with the line from the sender to the receiver replaced.
-abbrev pub relined : Query → Link → Query
-relined q l =
-    record {
-      sites = q .sites;
-      relations = q .relations;
-      joins = q .joins;
-      sizes = q .sizes;
-      lines = withLine (l .sender) (l .receiver) (q .lines) (l .terms);
-      target = q .target;
-    }
+abbrev pub relinedBy : Query → Link → Query
+relinedBy q l = relined q (l .sender) (l .receiver) (l .terms)
 
 -- Link: replaces that line and drops the kept plan. Refusals 20, 6, 3.
 abbrev pub linkQuery : Option Query → Link → State → Done
 linkQuery none l s = refusing 20 s
 linkQuery (some q) l s =
-    pick (sitesListed (sitesOf q) (l .sender) (l .receiver)) (pick (termsInRange (l .terms)) (doneWith linked (standing (relined q l))) (refusing 3 s)) (refusing 6 s)
+    pick (sitesListed (sitesOf q) (l .sender) (l .receiver)) (pick (termsInRange (l .terms)) (doneWith linked (standing (relinedBy q l))) (refusing 3 s)) (refusing 6 s)
 
 unfoldable pub link : Link → State → Done
 link l s = linkQuery (s .query) l s

@@ -18,7 +18,7 @@ ghost use mathlib.Core.Path.{_≡_};
 ghost use mathlib.Core.Bool.{false};
 ghost use lib.ListN.{length, drop};
 ghost use Rattle.planner.specs.State.{nothing};
-ghost use Rattle.planner.specs.Calls.{load, link, linkOf, sitesListed, termsInRange, relined, solve, solveAdmitted, readingOf, read, check};
+ghost use Rattle.planner.specs.Calls.{load, link, linkOf, sitesListed, termsInRange, relinedBy, solve, solveAdmitted, readingOf, read, check};
 ghost use Rattle.planner.specs.Contracts.{stateOf, doneOf, ofLoad, ofLink, ofSolve, ofRead, ofCheck, Sound};
 
 // The cells that solve needs.
@@ -86,7 +86,7 @@ fn terms_in_range(opened: u64, fixed: u64, rate: u64) -> bool
 // The query with the line from the sender to the receiver replaced.
 fn relined(q: Query, sender: u64, receiver: u64, opened: u64, fixed: u64, rate: u64) -> Query
     requires { ⌜ (sender < 8) × (receiver < 8) ⌝ }
-    ensures { λ r. ⌜ r ≡ relined q (linkOf sender receiver opened fixed rate) ⌝ }
+    ensures { λ r. ⌜ r ≡ relinedBy q (linkOf sender receiver opened fixed rate) ⌝ }
 {
     let at = 8 * (sender as usize) + (receiver as usize);
     let mut lines = q.lines;

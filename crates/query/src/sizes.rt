@@ -6,6 +6,7 @@ use crate::fields::part_from;
 use crate::fields::read_field;
 use crate::sections::Outcome;
 use relations::Joins;
+use relations::ends;
 use relations::is_subquery;
 use relations::single;
 ghost use Prim.Native.Nat.{_+_, _≤_};
@@ -38,13 +39,13 @@ pub(crate) fn read_sizes(part: &[u8], joins: Joins, due: usize) -> SizesRead
             sizes,
         };
     };
-    let count = joins.count;
-    let end = single(count + 1);
+    let around = ends(joins);
+    let end = single(joins.count + 1);
     let mut at = 2;
     let mut set = 0;
     while set < end {
         let next = set + 1;
-        if is_subquery(&joins.first, &joins.second, count, set) {
+        if is_subquery(&around, joins.count, set) {
             let v = amount_up_to(part_from(part, at), MOST_SIZE);
             let Field::Value(size) = v else {
                 return SizesRead {

@@ -60,6 +60,9 @@ bit-add A B p r =
     let sum : bit (bitOr A B) r ≡ bit (A + B) r = ap (λ (x : ℕ). bit x r) (or-disjoint A B (and-apart A B p)) in
     omega (arith, bit-or A B r, p r)
 
+pub and-of-sub : (A B : ℕ) → Sub A B → bitAnd B A ≡ A
+and-of-sub A B s = ext (bitAnd B A) A (λ r. omega (arith, bit-and B A r, s r))
+
 pub bit-sub : (A B : ℕ) → Sub A B → (r : ℕ) → bit (B - A) r ≡ bit B r - bit A r
 bit-sub A B s zero = omega (arith, bit-zero (B - A), bit-zero A, bit-zero B, s 0, le-of-sub A B s)
 bit-sub A B s (suc r) = bit-suc (B - A) r ∙ ap (λ (x : ℕ). bit x r) halves ∙ bit-sub (A / 2) (B / 2) less r ∙ omega (arith, bit-suc A r, bit-suc B r)

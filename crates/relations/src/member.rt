@@ -1,6 +1,7 @@
 // Membership in a set of relations, and a set with one relation more.
 ghost use Prim.Native.Nat.{_+_, _-_, _^_, _<_};
 ghost use mathlib.Core.Path.{_≡_};
+ghost use lib.Bits.{bitAnd};
 ghost use lib.Dec.{eqb};
 ghost use Rattle.relations.specs.Sets.{bit, put, all};
 
@@ -17,6 +18,13 @@ pub fn both(set: usize, f: usize, s: usize) -> bool
     ensures { λ r. ⌜ r ≡ eqb (bit set f + bit set s) 2 ⌝ }
 {
     bit(set, f) + bit(set, s) == 2
+}
+
+// The part lies in the set whole.
+pub fn within(set: usize, part: usize) -> bool
+    ensures { λ r. ⌜ r ≡ eqb (bitAnd set part) part ⌝ }
+{
+    set & part == part
 }
 
 // The set with relation r, whether r was in it or not.

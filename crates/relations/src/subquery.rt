@@ -1,13 +1,13 @@
 // Which sets of relations are subqueries: in a tree, those that hold one join fewer than relations. No growth is needed.
 use crate::Joins;
-use crate::member::both;
 use crate::member::single;
+use crate::member::with;
+use crate::member::within;
 use crate::tree::reaches;
 ghost use Prim.Native.Nat.{_+_, _^_, _≤_, _<_};
 ghost use mathlib.Core.Path.{_≡_};
-ghost use lib.ListN.{length};
-ghost use Rattle.relations.specs.Trees.{isSubquery, subqueries, joinsIn, Tree};
-ghost use Rattle.relations.specs.Code.{joinsOf, LentTree, tally, endsBelow, counted};
+ghost use Rattle.relations.specs.Trees.{subqueries, Tree};
+ghost use Rattle.relations.specs.Code.{Drawn, EndsOf, wholeIn, subqueryBy, tally, endsBelow, counted};
 
 // One more where the test holds.
 fn tally(yes: bool, n: usize) -> usize
@@ -17,28 +17,44 @@ fn tally(yes: bool, n: usize) -> usize
     if yes { n + 1 } else { n }
 }
 
-// How many joins lie in the set.
-fn joins_in<'a>(first: &'a [usize], second: &'a [usize], count: usize, set: usize) -> usize
-    requires { ⌜ (count ≤ 8) × (count ≤ length (now first)) × (count ≤ length (now second)) ⌝ }
-    ensures { λ r. ⌜ (r ≡ joinsIn (joinsOf count (now (first .entry)) (now (second .entry))) set count) × (r ≤ 8) ⌝ }
+// The two relations of each join, as a set.
+pub fn ends(joins: Joins) -> [usize; 8]
+    requires { ⌜ Drawn joins ⌝ }
+    ensures { λ r. ⌜ EndsOf joins r (joins .count) ⌝ }
+{
+    let count = joins.count;
+    let mut found = [0usize; 8];
+    let mut e = 0;
+    while e < count {
+        let f = joins.first[e];
+        let s = joins.second[e];
+        found[e] = with(single(f), s);
+        e += 1;
+    }
+    found
+}
+
+// How many joins lie in the set, by their ends.
+fn joins_in(ends: &[usize; 8], count: usize, set: usize) -> usize
+    requires { ⌜ count ≤ 8 ⌝ }
+    ensures { λ r. ⌜ (r ≡ wholeIn (now (ends .entry)) set count) × (r ≤ 8) ⌝ }
 {
     let mut n = 0;
     let mut e = 0;
     while e < count {
-        n = tally(both(set, first[e], second[e]), n);
+        n = tally(within(set, ends[e]), n);
         e += 1;
     }
     n
 }
 
-// The set is a subquery.
-pub fn is_subquery<'a>(first: &'a [usize], second: &'a [usize], count: usize, set: usize) -> bool
-    requires { ⌜ LentTree count (now first) (now second) ⌝ }
-    requires { ⌜ set < 2 ^ (count + 1) ⌝ }
-    ensures { λ r. ⌜ r ≡ isSubquery (joinsOf count (now (first .entry)) (now (second .entry))) (count + 1) set ⌝ }
+// The set is a subquery of the tree whose joins have these ends.
+pub fn is_subquery(ends: &[usize; 8], count: usize, set: usize) -> bool
+    requires { ⌜ count ≤ 8 ⌝ }
+    ensures { λ r. ⌜ r ≡ subqueryBy (now (ends .entry)) count set ⌝ }
 {
     let relations = usize::count_ones(set) as usize;
-    (0 < set) & (joins_in(first, second, count, set) + 1 == relations)
+    (0 < set) & (joins_in(ends, count, set) + 1 == relations)
 }
 
 // The number of subqueries of a tree.
@@ -46,12 +62,12 @@ pub fn count_subqueries(joins: Joins) -> usize
     requires { ⌜ (joins .count ≤ 8) × Tree joins (joins .count + 1) ⌝ }
     ensures { λ r. ⌜ r ≡ subqueries joins (joins .count + 1) ⌝ }
 {
-    let count = joins.count;
-    let end = single(count + 1);
+    let around = ends(joins);
+    let end = single(joins.count + 1);
     let mut n = 0;
     let mut set = 0;
     while set < end {
-        n = tally(is_subquery(&joins.first, &joins.second, count, set), n);
+        n = tally(is_subquery(&around, joins.count, set), n);
         set += 1;
     }
     n

@@ -1,43 +1,54 @@
 -- Over a query's own lists, with every smaller subquery's cells filled, the figures that the loops compute for a subquery are those of the two tables.
-use Prim.Native.Nat.{ℕ, _+_, _-_, _^_, _≤_, _<_}
+use Prim.Native.Nat.{ℕ, _+_, _-_, _^_, _≤_, _<_, zero-le}
 use native.Mathlib.Nat.{le-refl}
 use native.Mathlib.Omega.{arith}
 use mathlib.Core.Path.{_≡_, refl, sym, ap, subst, _∙_}
 use mathlib.Core.Bool.{Bool, true, false}
 use mathlib.Core.List.{List}
 use lib.Bits.{bitAnd}
-use lib.Count.{ones}
+use lib.Count.{ones, trailingZeros}
 use lib.Dec.{eqb}
 use lib.ListN.{getD}
+use borrow.Author.Tests.{eqb-true}
 use Rattle.relations.specs.Growth.{inside}
 use Rattle.relations.specs.Trees.{Subquery, side}
 use Rattle.relations.specs.Theorems.{Split}
 use Rattle.relations.specs.Code.{SidesOf}
 use Rattle.relations.proofs.Splits.{split, part-by-side, Smaller, split-smaller}
+use Rattle.relations.proofs.Counts.{one-some, lowest-below}
 use Rattle.relations.proofs.Connected.{subquery-range}
 use Rattle.relations.proofs.Turns.{below-512}
 use Rattle.query.specs.declared.Query.{Query}
 use Rattle.query.specs.Choice.{pick}
 use Rattle.query.specs.Cost.{none, some, both, plus}
-use Rattle.query.specs.Query.{Valid, relationsOf, sitesOf, mayJoin}
+use Rattle.query.specs.Query.{Valid, relationsOf, sitesOf, home, mayJoin}
 use Rattle.query.specs.Prices.{carriage, joinPrice, indexed}
 use Rattle.query.proofs.Prices.{join-most}
-use Rattle.tables.specs.Least.{best, least}
-use Rattle.tables.specs.Tables.{firstPart, otherPart, byJoin, joinedBy, bySite, delivered, joined}
-use Rattle.tables.specs.Code.{place, noneMark, mark, leastOf, placeOf, splitOf, trialOf, Triable, Lent, lent, joinIn, splitBy, joinTrial, Joinable, Row, joinedBelow, permittedAt, siteTrial, deliveredAt, Marked, Filled}
-use Rattle.tables.proofs.Tables.{delivered-more}
+use Rattle.tables.specs.Least.{Best, best, least}
+use Rattle.tables.specs.Tables.{firstPart, otherPart, only, byJoin, joinedBy, bySite, delivered, joined}
+use Rattle.tables.specs.Plan.{bestSite}
+use Rattle.relations.specs.Code.{Row}
+use Rattle.tables.specs.Code.{place, noneMark, mark, leastOf, placeOf, splitOf, trialOf, Triable, Lent, lentOf, joinIn, splitBy, joinTrial, Joinable, HomeLow, joinedBelow, bareAt, startAt, siteTrial, deliveredAt, Marked, Filled}
 use Rattle.tables.proofs.Most.{delivered-most, joined-most}
 use Rattle.tables.proofs.Marks.{UpToOr, Shows, Kept, mark-most, kept-all, shows-joined, shows-sent, shows-more, up-to-is}
-use Rattle.tables.proofs.Carried.{price-is, carriage-is, carriage-up-to}
+use Rattle.tables.proofs.Started.{startCost, started-same, delivered-started}
+use Rattle.tables.proofs.Carried.{only-is, price-is, carriage-is, carriage-up-to}
 
 -- The lists of a query, with a work area and the sides of its joins.
 abbrev pub lentBy : Query → List ℕ → List ℕ → Lent
-lentBy q work around =
-    lent work around (q .joins .first) (q .joins .second) (q .relations .home) (q .relations .index) (q .sizes) (q .sites .fixed) (q .sites .rate)
+lentBy q work around = lentOf work around (q .joins) (q .relations) (q .sizes) (q .sites)
 
 -- A set of relations is below 512.
 pub set-low : (q : Query) → Valid q → (S : ℕ) → S < 2 ^ relationsOf q → S < 512
 set-low q v S h = below-512 S (relationsOf q) (v .relations-most) h
+
+-- The home of the relation of a set of one is one of eight sites.
+pub home-low : (q : Query) → Valid q → (S : ℕ) → S < 2 ^ relationsOf q → HomeLow (q .relations .home) S
+unfolding home
+home-low q v S low one =
+    let at : getD (q .relations .home) (trailingZeros 64 S) 0 ≡ getD (q .relations .home) (only q S) 0 =
+    ap (λ (r : ℕ). getD (q .relations .home) r 0) (only-is q v S low one) in
+    omega (arith, v .homes (only q S) (lowest-below (relationsOf q) S (one-some S one) low), v .sites-most)
 
 pub delivered-up-to : (q : Query) → Valid q → (S t : ℕ) → Subquery (q .joins) (relationsOf q) S → UpToOr 41_000_025_000_000 (delivered _+_ q S t)
 delivered-up-to q v S t s = up-to-is 41_000_025_000_000 (delivered _+_ q S t) (λ c e. delivered-most q v S t c s e)
@@ -138,35 +149,65 @@ module _ (q : Query) (v : Valid q) (work around : List ℕ) (sides : SidesOf (q 
             rate-most = v .join-rate-most k;
           }
 
-  -- The row of Joined, once the sites that may not join are taken out.
-  pub row-joined : (tried row : List ℕ) → Row tried (joinedBelow l S (q .joins .count)) (sitesOf q) → Row row (permittedAt (q .sites .may) tried) (sitesOf q) →
-      (k : ℕ) → k < sitesOf q → getD row k 0 ≡ mark (joined _+_ q S k)
-  unfolding joined joinedBy mayJoin permittedAt joinedBelow
-  row-joined tried row t r k m = r .each k m ∙ go (eqb (getD (q .sites .may) k 0) 1)
+  -- The row that S starts from.
+  pub row-started : (row : List ℕ) → Row row (startAt l (q .sites .may) S (q .joins .count)) (sitesOf q) → (k : ℕ) → k < sitesOf q → getD row k 0 ≡ mark (startCost q S k)
+  unfolding startAt startCost bareAt joined joinedBy mayJoin joinedBelow home
+  row-started row r k m = r .each k m ∙ go (eqb (ones S) 1) refl
     where
-      go : (b : Bool) → pick b (getD tried k 0) noneMark ≡ mark (pick b (least (byJoin _+_ (delivered _+_ q) q S k) (q .joins .count)) none)
-      go true = t .each k m ∙ joins-kept k m .figure-is
-      go false = refl
+      bare : (h i : ℕ) → h ≡ i → pick (eqb k h) 0 noneMark ≡ mark (pick (eqb k i) (some 0) none)
+      bare h i e = rw e (by-flag (eqb k i))
+        where
+          by-flag : (t : Bool) → pick t 0 noneMark ≡ mark (pick t (some 0) none)
+          by-flag true = refl
+          by-flag false = refl
 
--- From the row of Joined: no figure above that of none, and Delivered at every site.
+      made : (t : Bool) →
+          pick t (leastOf (joinTrial l S k) (q .joins .count)) noneMark ≡ mark (pick t (least (byJoin _+_ (delivered _+_ q) q S k) (q .joins .count)) none)
+      made true = joins-kept k m .figure-is
+      made false = refl
+
+      go : (o : Bool) → eqb (ones S) 1 ≡ o →
+          pick o (pick (eqb k (getD (q .relations .home) (trailingZeros 64 S) 0)) 0 noneMark)
+          (pick (eqb (getD (q .sites .may) k 0) 1) (leastOf (joinTrial l S k) (q .joins .count)) noneMark)
+          ≡ mark (pick o (pick (eqb k (getD (q .relations .home) (only q S) 0)) (some 0) none)
+          (pick (eqb (getD (q .sites .may) k 0) 1) (least (byJoin _+_ (delivered _+_ q) q S k) (q .joins .count)) none))
+      go true one =
+          bare (getD (q .relations .home) (trailingZeros 64 S) 0) (getD (q .relations .home) (only q S) 0)
+          (ap (λ (r : ℕ). getD (q .relations .home) r 0) (only-is q v S (subquery-range (q .joins) (relationsOf q) S s .1) (eqb-true (ones S) 1 one)))
+      go false more = made (eqb (getD (q .sites .may) k 0) 1)
+
+-- From the row that S starts from: no figure above that of none, and Delivered at every site.
 module _ (q : Query) (v : Valid q) (S : ℕ) (s : Subquery (q .joins) (relationsOf q) S) (row : List ℕ)
-    (is : (k : ℕ) → k < sitesOf q → getD row k 0 ≡ mark (joined _+_ q S k)) where
+    (is : (k : ℕ) → k < sitesOf q → getD row k 0 ≡ mark (startCost q S k)) where
+  start-up-to : (k : ℕ) → UpToOr 41_000_025_000_000 (startCost q S k)
+  unfolding startCost
+  start-up-to k = go (eqb (ones S) 1) (eqb k (home q (only q S)))
+    where
+      go : (o h : Bool) → UpToOr 41_000_025_000_000 (pick o (pick h (some 0) none) (joined _+_ q S k))
+      go true true = zero-le
+      go true false = tt
+      go false h = joined-up-to q v S k s
+
   pub row-marked : Marked row (sitesOf q)
-  row-marked = record { few = v .sites-most; each = λ k m. rw (is k m) (mark-most 41_000_025_000_000 (joined _+_ q S k) (omega arith) (joined-up-to q v S k s)) }
+  row-marked = record { few = v .sites-most; each = λ k m. rw (is k m) (mark-most 41_000_025_000_000 (startCost q S k) (omega arith) (start-up-to k)) }
 
   abbrev trials : ℕ → ℕ → ℕ
   trials t k = siteTrial row (q .lines .flag) (q .lines .fixed) (q .lines .rate) (getD (q .sizes) S 0) t k
 
-  site-shows : (t k : ℕ) → k < sitesOf q → Shows 42_000_026_000_000 (trials t k) (bySite (joined _+_ q S) q S t k)
+  site-shows : (t k : ℕ) → k < sitesOf q → Shows 42_000_026_000_000 (trials t k) (bySite (startCost q S) q S t k)
   unfolding siteTrial
   site-shows t k m =
       rw (is k m, carriage-is q S k t)
-      (shows-sent 41_000_025_000_000 1_000_001_000_000 (joined _+_ q S k) (carriage q S k t) (joined-up-to q v S k s) (carriage-up-to q v S k t))
+      (shows-sent 41_000_025_000_000 1_000_001_000_000 (startCost q S k) (carriage q S k t) (start-up-to k) (carriage-up-to q v S k t))
 
-  pub sites-kept : (t : ℕ) → Kept 42_000_026_000_000 (best (bySite (joined _+_ q S) q S t) (sitesOf q)) (leastOf (trials t) (sitesOf q)) (placeOf (trials t) (sitesOf q))
-  sites-kept t = kept-all 42_000_026_000_000 (omega arith) (bySite (joined _+_ q S) q S t) (trials t) (sitesOf q) (λ k m. site-shows t k m)
+  sites-kept : (t : ℕ) → Kept 42_000_026_000_000 (best (bySite (startCost q S) q S t) (sitesOf q)) (leastOf (trials t) (sitesOf q)) (placeOf (trials t) (sitesOf q))
+  sites-kept t = kept-all 42_000_026_000_000 (omega arith) (bySite (startCost q S) q S t) (trials t) (sitesOf q) (λ k m. site-shows t k m)
 
-  pub delivered-figure : 1 < ones S → (t : ℕ) →
+  pub delivered-figure : (t : ℕ) →
       deliveredAt row (q .lines .flag) (q .lines .fixed) (q .lines .rate) (getD (q .sizes) S 0) (sitesOf q) t ≡ mark (delivered _+_ q S t)
   unfolding deliveredAt
-  delivered-figure more t = sites-kept t .figure-is ∙ ap mark (sym (delivered-more _+_ q v S t s more))
+  delivered-figure t = sites-kept t .figure-is ∙ ap mark (sym (delivered-started q v S t s))
+
+  pub site-chosen : (t : ℕ) → (ones S ≡ 1 → ⊥) → placeOf (trials t) (sitesOf q) ≡ bestSite _+_ q S t
+  unfolding bestSite
+  site-chosen t more = sites-kept t .at-is ∙ ap (λ (b : Best). b .at) (started-same q S t more)

@@ -14,11 +14,13 @@ use Rattle.query.specs.Query.{Valid, relationsOf, sitesOf, home}
 use Rattle.tables.specs.declared.cells.Choice.{Choice}
 use Rattle.tables.specs.Tables.{firstPart, otherPart}
 use Rattle.tables.specs.Plan.{sendIfDue, bestSite, bestJoin, joinedSteps, deliveredSteps, writtenDelivered, writtenJoined, stepBytes, joinStep}
-use Rattle.tables.specs.Code.{joinTrial, Joinable, Row, joinedBelow, permittedAt, siteTrial, placeOf, ChoiceOf, Marked, Filled, Wrote, Known, ToDeliver, ToJoin}
+use Rattle.relations.specs.Code.{Row}
+use Rattle.tables.specs.Code.{joinTrial, mark, Joinable, HomeLow, startAt, siteTrial, placeOf, ChoiceOf, Marked, Filled, Wrote, Known, ToDeliver, ToJoin}
 use Rattle.tables.proofs.Tables.{ones-some, ByJoin, delivered-found, joined-found}
 use Rattle.tables.proofs.Written.{written-is}
 use Rattle.tables.proofs.Carried.{only-is}
-use Rattle.tables.proofs.Columns.{lentBy, joinable, joins-kept, row-joined, row-marked, sites-kept, part-is}
+use Rattle.tables.proofs.Columns.{lentBy, joinable, joins-kept, home-low, row-started, row-marked, site-chosen, part-is}
+use Rattle.tables.proofs.Started.{startCost}
 use Rattle.tables.proofs.Stores.{step-bytes-append, wrote-none}
 
 module _ (q : Query) (around work : List ℕ) (S : ℕ) (k : Known q around work S) where
@@ -31,7 +33,7 @@ module _ (q : Query) (around work : List ℕ) (S : ℕ) (k : Known q around work
   filled-here : Filled q work S
   filled-here = record { room = k .filled .room; each = λ T t h s m. k .filled .each T t (omega (arith, low)) s m }
 
-  pub known-joinable : Joinable (lentBy q work around) S (q .joins .count) (sitesOf q)
+  known-joinable : Joinable (lentBy q work around) S (q .joins .count) (sitesOf q)
   known-joinable = joinable q v work around (k .sides) S filled-here (k .subquery)
 
   pub joinable-at : (j : ℕ) → j < sitesOf q → Joinable (lentBy q work around) S (q .joins .count) (j + 1)
@@ -43,17 +45,19 @@ module _ (q : Query) (around work : List ℕ) (S : ℕ) (k : Known q around work
   unfolding bestJoin
   join-is j r h e = e ∙ joins-kept q v work around (k .sides) S filled-here (k .subquery) j h .at-is
 
-  module _ (tried row : List ℕ) (t : Row tried (joinedBelow (lentBy q work around) S (q .joins .count)) (sitesOf q))
-      (r : Row row (permittedAt (q .sites .may) tried) (sitesOf q)) where
-    pub known-marked : Marked row (sitesOf q)
-    known-marked = row-marked q v S (k .subquery) row (row-joined q v work around (k .sides) S filled-here (k .subquery) tried row t r)
+  pub known-startable : Joinable (lentBy q work around) S (q .joins .count) (sitesOf q) × HomeLow (q .relations .home) S
+  known-startable = (known-joinable, home-low q v S low)
 
-    pub site-is : (u x : ℕ) (c : Choice) → x ≡ getD (q .sizes) S 0 →
+  module _ (row : List ℕ) (r : Row row (startAt (lentBy q work around) (q .sites .may) S (q .joins .count)) (sitesOf q)) where
+    row-is : (j : ℕ) → j < sitesOf q → getD row j 0 ≡ mark (startCost q S j)
+    row-is = row-started q v work around (k .sides) S filled-here (k .subquery) row r
+
+    pub known-marked : Marked row (sitesOf q)
+    known-marked = row-marked q v S (k .subquery) row row-is
+
+    pub site-is : (u x : ℕ) (c : Choice) → (ones S ≡ 1 → ⊥) → x ≡ getD (q .sizes) S 0 →
         ChoiceOf (siteTrial row (q .lines .flag) (q .lines .fixed) (q .lines .rate) x u) (sitesOf q) c → c .at ≡ bestSite _+_ q S u
-    unfolding bestSite
-    site-is u x c e h =
-        let is = row-joined q v work around (k .sides) S filled-here (k .subquery) tried row t r in
-        (rw e at (h .at-is)) ∙ sites-kept q v S (k .subquery) row is u .at-is
+    site-is u x c more e h = (rw e at (h .at-is)) ∙ site-chosen q v S (k .subquery) row row-is u more
 
 -- One relation: its load, then a send if one is due.
 pub one-bytes : (q : Query) (around work : List ℕ) (S t r h : ℕ) → ToDeliver q around work S t → ones S ≡ 1 → r ≡ trailingZeros 64 S →

@@ -7,25 +7,30 @@ use mathlib.Core.Path.{_≡_, refl, sym, ap, subst, _∙_}
 use mathlib.Core.Bool.{Bool, true, false}
 use mathlib.Core.Logic.{_⊎_, inl, inr}
 use mathlib.Core.List.{List}
-use lib.Count.{ones, ones-le, trailingZeros}
+use lib.Count.{ones, ones-le}
 use lib.ListN.{length, getD, drop, length-drop}
+use lib.Pow.{pow-pos, pow-mono}
 use lib.Seq.{ext-getD, getD-drop}
+use mir.Syntax.{w64}
+use mir.Val.{Fits}
 use Rattle.relations.specs.declared.Joins.{Joins}
 use Rattle.relations.specs.Sets.{all}
 use Rattle.relations.specs.Trees.{isSubquery, Subquery, Tree}
-use Rattle.relations.specs.Code.{Drawn}
-use Rattle.relations.proofs.Counts.{ones-zero, one-some, lowest-below}
+use Rattle.relations.specs.Code.{Drawn, EndsOf, subqueryBy, SidesOf}
+use Rattle.relations.proofs.Turns.{tested}
+use Rattle.relations.proofs.Counts.{ones-zero}
 use Rattle.relations.proofs.Connected.{subquery-range}
 use Rattle.relations.proofs.Leads.{never-both}
 use Rattle.query.specs.declared.Query.{Query}
 use Rattle.query.specs.Choice.{pick}
-use Rattle.query.specs.Query.{Valid, relationsOf, sitesOf, home}
-use Rattle.tables.specs.Tables.{only, delivered, joined, joinsBelow}
-use Rattle.tables.specs.Code.{place, mark, carriageAt, deliveredAt, Priced, Stored, Filled, FilledFrom}
-use Rattle.tables.proofs.Tables.{ones-some, delivered-one}
+use Rattle.query.specs.Query.{Valid, relationsOf, sitesOf}
+use Rattle.tables.specs.Tables.{delivered, joinsBelow}
+use Rattle.relations.specs.Code.{Row}
+use Rattle.tables.specs.Code.{place, mark, deliveredAt, Joinable, HomeLow, startAt, Marked, Priced, Stored, Filled, FilledFrom}
+use Rattle.tables.proofs.Tables.{ones-some}
 use Rattle.tables.proofs.Figures.{place-low, place-apart}
-use Rattle.tables.proofs.Carried.{only-is, carriage-is}
-use Rattle.tables.proofs.Columns.{set-low, delivered-figure}
+use Rattle.tables.proofs.Started.{startCost}
+use Rattle.tables.proofs.Columns.{lentBy, set-low, joinable, home-low, row-started, row-marked, delivered-figure}
 
 -- What filling has reached when set S is next.
 pub record Going (q : Query) (old work : List ℕ) (S tried : ℕ) : Type 0 where
@@ -33,6 +38,18 @@ pub record Going (q : Query) (old work : List ℕ) (S tried : ℕ) : Type 0 wher
   pub long : length work ≡ length old
   pub later : drop 4096 work ≡ drop 4096 old
   pub joins : tried ≡ joinsBelow (q .joins) (relationsOf q) S
+
+-- The end of the sets, and that the sets and the sites are few.
+pub record EndOf (q : Query) (end : ℕ) : Type 0 where
+  pub is : end ≡ 2 ^ relationsOf q
+  pub some : 1 ≤ end
+  pub low : end ≤ 512
+  pub sites-few : sitesOf q ≤ 8
+
+pub ones-fits : (q : Query) (S e : ℕ) → S < e → EndOf q e → Fits w64 (ones S)
+ones-fits q S e h end =
+    let low : S < 2 ^ 9 = omega (arith, end .low) in
+    omega (arith, ones-le 9 S low)
 
 -- Lists of one length that agree from n on.
 later-same : (n : ℕ) (old new : List ℕ) → length new ≡ length old → ((i : ℕ) → n ≤ i → getD new i 0 ≡ getD old i 0) → drop n new ≡ drop n old
@@ -70,6 +87,10 @@ module _ (q : Query) (v : Valid q) where
         second-in = tree-here .second-in;
       }
 
+  -- The test of a set by the ends of the joins.
+  pub test-here : (l : List ℕ) (S e : ℕ) (d : Bool) → EndsOf (q .joins) l (q .joins .count) → d ≡ subqueryBy l (q .joins .count) S → S < e → EndOf q e → d ≡ isSubquery (q .joins) (q .joins .count + 1) S
+  test-here l S e d h t below end = tested (q .joins) l S e d tree-here h t below (end .is ∙ ap (λ (n : ℕ). 2 ^ n) (sym (v .tree .joins)))
+
   pub subquery-here : (S : ℕ) (d : Bool) → d ≡ isSubquery (q .joins) (q .joins .count + 1) S → d ≡ true → Subquery (q .joins) (relationsOf q) S
   subquery-here S d e t = subst (λ (n : ℕ). isSubquery (q .joins) n S ≡ true) (v .tree .joins) (sym e ∙ t)
 
@@ -79,17 +100,13 @@ module _ (q : Query) (v : Valid q) where
   pub all-here : (S : ℕ) → S ≡ all (q .joins .count + 1) → S ≡ all (relationsOf q)
   all-here S e = e ∙ ap all (v .tree .joins)
 
-  pub end-here : (e : ℕ) → e ≡ 2 ^ (q .joins .count + 1) → e ≡ 2 ^ relationsOf q
-  end-here e h = h ∙ ap (λ (n : ℕ). 2 ^ n) (v .tree .joins)
+  pub end-here : (e : ℕ) → e ≡ 2 ^ (q .joins .count + 1) → EndOf q e
+  end-here e h =
+      let is : e ≡ 2 ^ relationsOf q = h ∙ ap (λ (n : ℕ). 2 ^ n) (v .tree .joins) in
+      record { is = is; some = omega (arith, pow-pos (relationsOf q)); low = omega (arith, pow-mono {i = relationsOf q} {j = 9} (v .relations-most)); sites-few = v .sites-most }
 
   pub priced-here : (S x : ℕ) → x ≡ getD (q .sizes) S 0 → Priced (q .lines .fixed) (q .lines .rate) x
   priced-here S x e = record { fixed-most = v .line-fixed-most; rate-most = v .line-rate-most; size-most = rw e (v .sizes-most S) }
-
-  pub home-here : (S h : ℕ) → S < 2 ^ relationsOf q → ones S ≡ 1 → h ≡ getD (q .relations .home) (trailingZeros 64 S) 0 → h < 8
-  unfolding home
-  home-here S h low one e =
-      let at : h ≡ getD (q .relations .home) (only q S) 0 = e ∙ ap (λ (r : ℕ). getD (q .relations .home) r 0) (only-is q v S low one) in
-      omega (arith, v .homes (only q S) (lowest-below (relationsOf q) S (one-some S one) low), v .sites-most)
 
   -- Nothing is below set 1.
   pub going-start : (work : List ℕ) → 4096 ≤ length work → Going q work work 1 0
@@ -147,31 +164,41 @@ module _ (q : Query) (v : Valid q) where
             stored .other (place T t)
             (λ u k e. omega (arith, place-apart T S t u (omega (arith, v .sites-most)) (omega (arith, v .sites-most)) e .0)) ∙ g .cells .each T t h p m
 
-    -- One relation: its carriages from its home.
-    pub going-bare : (new : List ℕ) (x h : ℕ) → d ≡ true → ones S ≡ 1 → x ≡ getD (q .sizes) S 0 → h ≡ getD (q .relations .home) (trailingZeros 64 S) 0 →
-        Stored work new S (sitesOf q) (carriageAt (q .lines .flag) (q .lines .fixed) (q .lines .rate) x h) → Going q old new (S + 1) tried
-    unfolding home
-    going-bare new x h held one size-is home-is stored =
-        let s = subquery-here S d test held in
-        let low = subquery-range (q .joins) (relationsOf q) S s .1 in
-        going-on new (carriageAt (q .lines .flag) (q .lines .fixed) (q .lines .rate) x h) tried held stored
-        (λ t m. rw (size-is, home-is, only-is q v S low one) (carriage-is q S (getD (q .relations .home) (only q S) 0) t) ∙ ap mark (sym (delivered-one _+_ q v S t s one)))
-        (omega arith)
+    module _ (around : List ℕ) (sides : SidesOf (q .joins) around (q .joins .count)) (held : d ≡ true) where
+      -- What its row asks.
+      pub startable-here : Joinable (lentBy q work around) S (q .joins .count) (sitesOf q) × HomeLow (q .relations .home) S
+      startable-here =
+          let s = subquery-here S d test held in
+          (joinable q v work around sides S (g .cells) s, home-low q v S (subquery-range (q .joins) (relationsOf q) S s .1))
 
-    -- Two relations or more: the least over the sites of its row.
-    pub going-joined : (new row : List ℕ) (x r : ℕ) → d ≡ true → (ones S ≡ 1 → ⊥) → x ≡ getD (q .sizes) S 0 →
-        ((k : ℕ) → k < sitesOf q → getD row k 0 ≡ mark (joined _+_ q S k)) →
-        Stored work new S (sitesOf q) (deliveredAt row (q .lines .flag) (q .lines .fixed) (q .lines .rate) x (sitesOf q)) → r ≡ tried + (ones S - 1) →
-        Going q old new (S + 1) r
-    going-joined new row x r held more size-is is stored sum =
-        let s = subquery-here S d test held in
-        going-on new (deliveredAt row (q .lines .flag) (q .lines .fixed) (q .lines .rate) x (sitesOf q)) r held stored
-        (λ t m. rw size-is (delivered-figure q v S s row is (omega (arith, ones-some q v S s)) t)) sum
+      -- Its cells from its row.
+      module _ (row : List ℕ) (r : Row row (startAt (lentBy q work around) (q .sites .may) S (q .joins .count)) (sitesOf q)) where
+        row-here : (k : ℕ) → k < sitesOf q → getD row k 0 ≡ mark (startCost q S k)
+        row-here = row-started q v work around sides S (g .cells) (subquery-here S d test held) row r
+
+        pub marked-here : Marked row (sitesOf q)
+        marked-here = row-marked q v S (subquery-here S d test held) row row-here
+
+        pub going-stored : (new : List ℕ) (x : ℕ) → x ≡ getD (q .sizes) S 0 →
+            Stored work new S (sitesOf q) (deliveredAt row (q .lines .flag) (q .lines .fixed) (q .lines .rate) x (sitesOf q)) →
+            Going q old new (S + 1) (tried + (ones S - 1))
+        going-stored new x size-is stored =
+            going-on new (deliveredAt row (q .lines .flag) (q .lines .fixed) (q .lines .rate) x (sitesOf q)) (tried + (ones S - 1)) held stored
+            (λ t m. rw size-is (delivered-figure q v S (subquery-here S d test held) row row-here t)) refl
+
+    -- A subquery has at least one relation, and the joins counted so far are few.
+    pub some-relation : d ≡ true → 1 ≤ ones S
+    some-relation held = ones-some q v S (subquery-here S d test held)
+
+    pub tried-fits : (e : ℕ) → S < e → EndOf q e → Fits w64 (tried + (ones S - 1))
+    tried-fits e below end =
+        let low : S < 2 ^ 9 = omega (arith, end .low) in
+        omega (arith, joins-most q old work S tried (omega arith) g, ones-le 9 S low)
 
 -- After the last set every subquery is filled.
-pub going-done : (q : Query) (old work : List ℕ) (S r e : ℕ) → Going q old work S r → S ≤ e → e ≤ S → e ≡ 2 ^ relationsOf q → FilledFrom q old work r
-going-done q old work S r e g h k is =
-    let last : S ≡ 2 ^ relationsOf q = le-antisymm h k ∙ is in
+pub going-done : (q : Query) (old work : List ℕ) (S r e : ℕ) → Going q old work S r → S ≤ e → e ≤ S → EndOf q e → FilledFrom q old work r
+going-done q old work S r e g h k end =
+    let last : S ≡ 2 ^ relationsOf q = le-antisymm h k ∙ end .is in
     record {
       cells = subst (λ (m : ℕ). Filled q work m) last (g .cells);
       long = g .long;

@@ -4,31 +4,22 @@ use native.Mathlib.Numerals.{add-one}
 use native.Mathlib.Nat.{le-antisymm}
 use native.Mathlib.Omega.{arith}
 use mathlib.Core.Path.{_≡_, refl, ap, _∙_}
-use mathlib.Core.Bool.{true, false}
+use mathlib.Core.Bool.{Bool, true, false}
 use mathlib.Core.List.{List}
 use lib.ListN.{length, getD, set, length-set, replicate, getD-replicate}
+use lib.Count.{ones, trailingZeros}
 use lib.Seq.{getD-set-same, getD-set-other}
 use lib.Dec.{eqb}
-use borrow.Author.Tests.{eq-eqb, ne-eqb}
+use borrow.Author.Tests.{eq-eqb, ne-eqb, eqb-true, eqb-false}
 use borrow.Author.Count.{below-more}
 use Rattle.relations.specs.Sets.{bit}
 use Rattle.relations.proofs.Turns.{set-next}
 use Rattle.query.specs.Choice.{pick}
 use Rattle.tables.specs.declared.cells.Choice.{Choice}
 use Rattle.tables.specs.declared.splitting.Split.{Split}
-use Rattle.tables.specs.Code.{place, noneMark, lesser, leastOf, placeOf, ChoiceOf, betterOf, trialOf, splitBy, Lent, joinIn, joinTrial, Triable, Joinable, Row, Tried, joinedBelow, permittedAt, carriageAt, siteTrial, deliveredAt, Stored}
+use Rattle.relations.specs.Code.{Row}
+use Rattle.tables.specs.Code.{place, noneMark, lesser, leastOf, placeOf, ChoiceOf, betterOf, trialOf, splitBy, Lent, joinIn, joinTrial, Triable, Joinable, Tried, joinedBelow, permittedAt, bareAt, startAt, carriageAt, siteTrial, deliveredAt, Stored}
 use Rattle.tables.proofs.Figures.{place-apart, lesser-kept, least-most, choice-more, choice-same}
-
--- A row, filled from its first site on.
-pub row-none : (row : List ℕ) (g : ℕ → ℕ) → length row ≡ 8 → Row row g 0
-row-none row g h = record { eight = h; each = λ k l. absurd (omega arith) }
-
-pub row-more : (row : List ℕ) (g : ℕ → ℕ) (k s v : ℕ) → Row row g k → k < s → s ≤ 8 → v ≡ g k → Row (set row k v) g (k + 1)
-row-more row g k s v r l m e =
-    record { eight = length-set row k v ∙ r .eight; each = set-next row g k v (omega (arith, r .eight)) (r .each) e }
-
-pub row-done : (row : List ℕ) (g : ℕ → ℕ) (k s : ℕ) → Row row g k → s ≤ k → Row row g s
-row-done row g k s r l = record { eight = r .eight; each = λ i h. r .each i (omega arith) }
 
 -- A row that is tried against new figures from its first site on.
 pub record TriedTo (old new : List ℕ) (g : ℕ → ℕ) (k : ℕ) : Type 0 where
@@ -146,3 +137,21 @@ module _ (l : Lent) (S : ℕ) where
 
   pub join-worse : (k e : ℕ) (kept : Choice) → ChoiceOf (joinTrial l S k) e kept → joinIn l S e ≡ false → ChoiceOf (joinTrial l S k) (e + 1) kept
   join-worse k e kept c out = choice-same (joinTrial l S k) e kept c (trial-out k e out)
+
+-- The row of one relation, and the row that a subquery starts from.
+pub bare-row : (h : ℕ) → h < 8 → Row (set (replicate 8 (2 ^ 60)) h 0) (bareAt h) 8
+unfolding bareAt
+bare-row h low = record { eight = length-set (replicate 8 noneMark) h 0; each = λ k g. go k g (eqb k h) refl }
+  where
+    go : (k : ℕ) → k < 8 → (t : Bool) → eqb k h ≡ t → getD (set (replicate 8 noneMark) h 0) k 0 ≡ pick t 0 noneMark
+    go k g true e = rw (eqb-true k h e) (getD-set-same (replicate 8 noneMark) h 0 0 low)
+    go k g false e = getD-set-other (replicate 8 noneMark) h k 0 0 (eqb-false k h e) ∙ getD-replicate 8 k noneMark 0 g
+
+module _ (l : Lent) (may : List ℕ) (S m s : ℕ) where
+  pub start-bare : (h : ℕ) (row : List ℕ) → s ≤ 8 → ones S ≡ 1 → h ≡ getD (l .home) (trailingZeros 64 S) 0 → Row row (bareAt h) 8 → Row row (startAt l may S m) s
+  unfolding startAt
+  start-bare h row few one is r = record { eight = r .eight; each = λ k g. r .each k (omega arith) ∙ rw (eq-eqb (ones S) 1 one, is) }
+
+  pub start-joined : (tried row : List ℕ) → (ones S ≡ 1 → ⊥) → Row tried (joinedBelow l S m) s → Row row (permittedAt may tried) s → Row row (startAt l may S m) s
+  unfolding startAt permittedAt
+  start-joined tried row more t r = record { eight = r .eight; each = λ k g. r .each k g ∙ rw (ne-eqb (ones S) 1 more, t .each k g) }

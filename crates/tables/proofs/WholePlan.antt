@@ -22,6 +22,10 @@ module _ (q : Query) (v : Valid q) (c : ℕ) (number : cheapest _+_ q ≡ some c
   few-steps : length (writtenSteps _+_ q) ≤ 34
   few-steps = written-law _+_ plus-combines q v c number .few-steps
 
+  -- The written plan has at most 69 bytes.
+  pub written-most : length (written _+_ q) ≤ 69
+  written-most = omega (arith, step-bytes-long (writtenSteps _+_ q), few-steps)
+
   pub plan-start : (around work : List ℕ) (S : ℕ) → SidesOf (q .joins) around (q .joins .count) → Filled q work (2 ^ relationsOf q) → S ≡ all (q .joins .count + 1) →
       ToDeliver q around work S (q .target)
   plan-start around work S sides filled e =

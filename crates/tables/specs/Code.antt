@@ -9,9 +9,12 @@ use lib.Seq.{sets}
 use lib.Bits.{bitAnd}
 use lib.Count.{ones, trailingZeros}
 use lib.Dec.{eqb, ltb}
+use Rattle.relations.specs.declared.Joins.{Joins}
 use Rattle.relations.specs.Sets.{bit}
 use Rattle.relations.specs.Trees.{Subquery}
 use Rattle.relations.specs.Code.{SidesOf}
+use Rattle.query.specs.declared.Sites.{Sites}
+use Rattle.query.specs.declared.Relations.{Relations}
 use Rattle.query.specs.declared.Query.{Query}
 use Rattle.query.specs.Choice.{pick}
 use Rattle.query.specs.Cost.{Cost, none, some}
@@ -98,9 +101,19 @@ pub record Lent : Type 0 where
   pub fixed : List ℕ
   pub rate : List ℕ
 
-abbrev pub lent : (work sides first second home index sizes fixed rate : List ℕ) → Lent
-lent work sides first second home index sizes fixed rate =
-    record { work = work; sides = sides; first = first; second = second; home = home; index = index; sizes = sizes; fixed = fixed; rate = rate }
+abbrev pub lentOf : (work sides : List ℕ) → Joins → Relations → List ℕ → Sites → Lent
+lentOf work sides joins relations sizes sites =
+    record {
+      work = work;
+      sides = sides;
+      first = joins .first;
+      second = joins .second;
+      home = relations .home;
+      index = relations .index;
+      sizes = sizes;
+      fixed = sites .fixed;
+      rate = sites .rate;
+    }
 
 -- Whether both relations of join e are in S, and the split of S by e.
 unfoldable pub joinIn : Lent → ℕ → ℕ → Bool
@@ -119,11 +132,6 @@ pub record Joinable (l : Lent) (S m s : ℕ) : Type 0 where
   pub set-in : S < 512
   pub each : (e k : ℕ) → e < m → joinIn l S e ≡ true → k < s → Triable (l .work) (l .fixed) (l .rate) (splitBy l S e) k
 
--- A row with the figure g k for each site k below s.
-pub record Row (row : List ℕ) (g : ℕ → ℕ) (s : ℕ) : Type 0 where
-  pub eight : length row ≡ 8
-  pub each : (k : ℕ) → k < s → getD row k 0 ≡ g k
-
 -- The row with the figure g k for each site k below s where it is less.
 pub record Tried (old new : List ℕ) (g : ℕ → ℕ) (s : ℕ) : Type 0 where
   pub eight : length new ≡ 8
@@ -135,6 +143,18 @@ joinedBelow l S m k = leastOf (joinTrial l S k) m
 
 unfoldable pub permittedAt : List ℕ → List ℕ → ℕ → ℕ
 permittedAt may row k = pick (eqb (getD may k 0) 1) (getD row k 0) noneMark
+
+-- The row of one relation: nothing at its home h, none elsewhere.
+unfoldable pub bareAt : ℕ → ℕ → ℕ
+bareAt h k = pick (eqb k h) 0 noneMark
+
+abbrev pub HomeLow : List ℕ → ℕ → Type 0
+HomeLow homes S = ones S ≡ 1 → getD homes (trailingZeros 64 S) 0 < 8
+
+-- What S has cost at k where it can start from there: the home of one relation, else a site where it is joined.
+unfoldable pub startAt : Lent → List ℕ → ℕ → ℕ → ℕ → ℕ
+startAt l may S m k =
+    pick (eqb (ones S) 1) (bareAt (getD (l .home) (trailingZeros 64 S) 0) k) (pick (eqb (getD may k 0) 1) (joinedBelow l S m k) noneMark)
 
 -- The carriage of a size from site k to site t: none where the line is closed.
 unfoldable pub carriageAt : (flag fixed rate : List ℕ) → (size k t : ℕ) → ℕ

@@ -1,11 +1,9 @@
 // Filling the work area: Delivered of every subquery at every site, sets in ascending number.
-use crate::joining::join_row;
-use crate::joining::permitted;
-use crate::sending::store_bare;
-use crate::sending::store_joined;
-use crate::splitting::home_of;
+use crate::joining::start_row;
+use crate::sending::store;
 use crate::splitting::size_of;
 use query::Query;
+use relations::ends;
 use relations::is_subquery;
 use relations::sides;
 use relations::single;
@@ -20,56 +18,34 @@ pub fn fill(q: Query, work: &mut [u64]) -> u64
     ensures { λ r. ⌜ FilledFrom q (now (work .entry)) (now (work .exit)) r ⌝ }
 {
     let count = q.joins.count;
-    let sites = q.sites.count;
+    let cuts = ends(q.joins);
     let around = sides(q.joins);
     let end = single(count + 1);
     let mut tried = 0;
     let mut set = 1;
     while set < end {
-        if is_subquery(&q.joins.first, &q.joins.second, count, set) {
-            let relations = usize::count_ones(set) as u64;
-            let size = size_of(&q.sizes, set);
-            if relations == 1 {
-                let home = home_of(&q.relations.home, set);
-                store_bare(
-                    &mut *work,
-                    &q.lines.flag,
-                    &q.lines.fixed,
-                    &q.lines.rate,
-                    size,
-                    home,
-                    sites,
-                    set,
-                );
-                set += 1;
-                continue;
-            }
-            let tried_row = join_row(
+        if is_subquery(&cuts, count, set) {
+            let row = start_row(
                 &*work,
                 &around,
-                &q.joins.first,
-                &q.joins.second,
-                &q.relations.home,
-                &q.relations.index,
+                q.joins,
+                q.relations,
                 &q.sizes,
-                &q.sites.fixed,
-                &q.sites.rate,
-                count,
-                sites,
+                q.sites,
                 set,
             );
-            let row = permitted(tried_row, &q.sites.may, sites);
-            store_joined(
+            let size = size_of(&q.sizes, set);
+            store(
                 &mut *work,
                 &row,
                 &q.lines.flag,
                 &q.lines.fixed,
                 &q.lines.rate,
                 size,
-                sites,
+                q.sites.count,
                 set,
             );
-            tried = tried + (relations - 1);
+            tried = tried + (usize::count_ones(set) as u64 - 1);
             set += 1;
             continue;
         }

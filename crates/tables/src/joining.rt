@@ -1,18 +1,23 @@
-// Joined: the least over the joins in a subquery.
+// Joined: the least over the joins in a subquery, at each site.
 use crate::cells::Choice;
 use crate::cells::NONE;
 use crate::cells::better;
 use crate::cells::lesser;
 use crate::splitting::Split;
+use crate::splitting::home_of;
 use crate::splitting::split_of;
 use crate::splitting::trial;
+use query::Relations;
+use query::Sites;
+use relations::Joins;
 use relations::bit;
 ghost use Prim.Native.Nat.{ℕ, _+_, _≤_, _<_};
 ghost use mathlib.Core.Path.{_≡_};
 ghost use lib.Dec.{eqb};
 ghost use lib.ListN.{length};
 ghost use Rattle.query.specs.Choice.{pick};
-ghost use Rattle.tables.specs.Code.{noneMark, Triable, trialOf, Tried, lent, Joinable, Row, joinedBelow, joinTrial, permittedAt, placeOf};
+ghost use Rattle.relations.specs.Code.{Row};
+ghost use Rattle.tables.specs.Code.{noneMark, Triable, trialOf, Tried, lentOf, Joinable, HomeLow, joinedBelow, joinTrial, permittedAt, bareAt, startAt, placeOf};
 
 // The row with the figures of one join where they are less.
 fn try_sites<'a>(
@@ -35,30 +40,38 @@ fn try_sites<'a>(
 }
 
 // The least figure at each site over the joins in a set.
-pub fn join_row<'a>(
+fn join_row(
     work: &[u64],
-    sides: &[usize; 8],
-    first: &'a [usize; 8],
-    second: &'a [usize; 8],
-    home: &'a [usize; 9],
-    index: &'a [u64; 9],
-    sizes: &'a [u64; 512],
-    fixed: &'a [u64; 8],
-    rate: &'a [u64; 8],
-    count: usize,
-    sites: usize,
+    around: &[usize; 8],
+    joins: Joins,
+    relations: Relations,
+    sizes: &[u64; 512],
+    sites: Sites,
     set: usize,
 ) -> [u64; 8]
-    requires { ⌜ Joinable (lent (now work) (now sides) (now first) (now second) (now home) (now index) (now sizes) (now fixed) (now rate)) set count sites ⌝ }
-    ensures { λ r.
-        ⌜ Row r (joinedBelow (lent (now (work .entry)) (now (sides .entry)) (now (first .entry)) (now (second .entry)) (now (home .entry)) (now (index .entry)) (now (sizes .entry)) (now (fixed .entry)) (now (rate .entry))) set count) sites ⌝ }
+    requires { ⌜ Joinable (lentOf (now work) (now around) joins relations (now sizes) sites) set (joins .count) (sites .count) ⌝ }
+    ensures { λ r. ⌜ Row r (joinedBelow (lentOf (now (work .entry)) (now (around .entry)) joins relations (now (sizes .entry)) sites) set (joins .count)) (sites .count) ⌝ }
 {
+    let count = joins.count;
     let mut row = [NONE; 8];
     let mut e = 0;
     while e < count {
-        if bit(set, first[e]) + bit(set, second[e]) == 2 {
-            let parts = split_of(home, index, sizes, set, set & sides[e]);
-            try_sites(&mut row, work, fixed, rate, parts, sites);
+        if bit(set, joins.first[e]) + bit(set, joins.second[e]) == 2 {
+            let parts = split_of(
+                &relations.home,
+                &relations.index,
+                sizes,
+                set,
+                set & around[e],
+            );
+            try_sites(
+                &mut row,
+                work,
+                &sites.fixed,
+                &sites.rate,
+                parts,
+                sites.count,
+            );
             e += 1;
             continue;
         }
@@ -75,7 +88,7 @@ fn if_may(may: u64, figure: u64) -> u64
 }
 
 // The row with none at each site that may not join.
-pub fn permitted(row: [u64; 8], may: &[u64; 8], sites: usize) -> [u64; 8]
+fn permitted(row: [u64; 8], may: &[u64; 8], sites: usize) -> [u64; 8]
     requires { ⌜ (sites ≤ 8) × (length row ≡ 8) ⌝ }
     ensures { λ r. ⌜ Row r (permittedAt (now (may .entry)) row) sites ⌝ }
 {
@@ -88,38 +101,70 @@ pub fn permitted(row: [u64; 8], may: &[u64; 8], sites: usize) -> [u64; 8]
     allowed
 }
 
-// The lowest join of the least figure at site k.
-pub fn best_join<'a>(
+// The row of one relation: nothing at its home, none elsewhere.
+fn bare_row(home: usize) -> [u64; 8]
+    requires { ⌜ home < 8 ⌝ }
+    ensures { λ r. ⌜ Row r (bareAt home) 8 ⌝ }
+{
+    let mut bare = [NONE; 8];
+    bare[home] = 0;
+    bare
+}
+
+// What a subquery has cost at each site where it can start from: the home of one relation, else the sites where it is joined.
+pub fn start_row(
     work: &[u64],
-    sides: &[usize; 8],
-    first: &'a [usize; 8],
-    second: &'a [usize; 8],
-    home: &'a [usize; 9],
-    index: &'a [u64; 9],
-    sizes: &'a [u64; 512],
-    fixed: &'a [u64; 8],
-    rate: &'a [u64; 8],
-    count: usize,
+    around: &[usize; 8],
+    joins: Joins,
+    relations: Relations,
+    sizes: &[u64; 512],
+    sites: Sites,
+    set: usize,
+) -> [u64; 8]
+    requires { ⌜ Joinable (lentOf (now work) (now around) joins relations (now sizes) sites) set (joins .count) (sites .count) × HomeLow (relations .home) set ⌝ }
+    ensures { λ r. ⌜ Row r (startAt (lentOf (now (work .entry)) (now (around .entry)) joins relations (now (sizes .entry)) sites) (sites .may) set (joins .count)) (sites .count) ⌝ }
+{
+    if usize::count_ones(set) == 1 {
+        return bare_row(home_of(&relations.home, set));
+    }
+    let tried = join_row(work, around, joins, relations, sizes, sites, set);
+    permitted(tried, &sites.may, sites.count)
+}
+
+// The lowest join of the least figure at site k.
+pub fn best_join(
+    work: &[u64],
+    around: &[usize; 8],
+    joins: Joins,
+    relations: Relations,
+    sizes: &[u64; 512],
+    sites: Sites,
     set: usize,
     k: usize,
 ) -> usize
-    requires { ⌜ Joinable (lent (now work) (now sides) (now first) (now second) (now home) (now index) (now sizes) (now fixed) (now rate)) set count (k + 1) ⌝ }
-    ensures { λ r.
-        ⌜ r ≡ placeOf (joinTrial (lent (now (work .entry)) (now (sides .entry)) (now (first .entry)) (now (second .entry)) (now (home .entry)) (now (index .entry)) (now (sizes .entry)) (now (fixed .entry)) (now (rate .entry))) set k) count ⌝ }
+    requires { ⌜ Joinable (lentOf (now work) (now around) joins relations (now sizes) sites) set (joins .count) (k + 1) ⌝ }
+    ensures { λ r. ⌜ r ≡ placeOf (joinTrial (lentOf (now (work .entry)) (now (around .entry)) joins relations (now (sizes .entry)) sites) set k) (joins .count) ⌝ }
 {
+    let count = joins.count;
     let mut best = Choice {
         figure: NONE,
         at: 0,
     };
-    let mut e = 0;
-    while e < count {
-        if bit(set, first[e]) + bit(set, second[e]) == 2 {
-            let parts = split_of(home, index, sizes, set, set & sides[e]);
-            best = better(trial(work, fixed, rate, parts, k), e, best);
-            e += 1;
+    let mut join = 0;
+    while join < count {
+        if bit(set, joins.first[join]) + bit(set, joins.second[join]) == 2 {
+            let parts = split_of(
+                &relations.home,
+                &relations.index,
+                sizes,
+                set,
+                set & around[join],
+            );
+            best = better(trial(work, &sites.fixed, &sites.rate, parts, k), join, best);
+            join += 1;
             continue;
         }
-        e += 1;
+        join += 1;
     }
     best.at
 }

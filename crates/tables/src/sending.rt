@@ -59,8 +59,8 @@ pub fn best_site<'a>(
     best
 }
 
-// The cells of a subquery from its row of joins.
-pub fn store_joined<'a>(
+// The cells of a subquery from what it has cost at each site where it can start from.
+pub fn store<'a>(
     work: &mut [u64],
     row: &[u64; 8],
     flag: &'a [u64; 64],
@@ -84,29 +84,6 @@ pub fn store_joined<'a>(
         let best = best_site(row, flag, fixed, rate, size, sites, t);
         let at = place(set, t);
         work[at] = best.figure;
-        t += 1;
-    }
-}
-
-// The cells of one relation from its home.
-pub fn store_bare<'a>(
-    work: &mut [u64],
-    flag: &'a [u64; 64],
-    fixed: &'a [u64; 64],
-    rate: &'a [u64; 64],
-    size: Bytes,
-    home: usize,
-    sites: usize,
-    set: usize,
-)
-    requires { ⌜ Priced (now fixed) (now rate) (size .0) × ((home < 8) × ((sites ≤ 8) × ((set < 512) × (4096 ≤ length (now work))))) ⌝ }
-    ensures { λ _.
-        ⌜ Stored (now (work .entry)) (now (work .exit)) set sites (carriageAt (now (flag .entry)) (now (fixed .entry)) (now (rate .entry)) (size .0) home) ⌝ }
-{
-    let mut t = 0;
-    while t < sites {
-        let at = place(set, t);
-        work[at] = carriage(flag, fixed, rate, size, home, t);
         t += 1;
     }
 }

@@ -64,7 +64,7 @@ fn spared_at<'a>(home: &'a [usize; 9], index: &'a [u64; 9], set: usize) -> usize
 fn operand_of<'a>(
     home: &'a [usize; 9],
     index: &'a [u64; 9],
-    sizes: &'a [u64; 512],
+    sizes: &[u64; 512],
     set: usize,
 ) -> Operand
     requires { ⌜ set < 512 ⌝ }
@@ -82,7 +82,7 @@ fn operand_of<'a>(
 pub fn split_of<'a>(
     home: &'a [usize; 9],
     index: &'a [u64; 9],
-    sizes: &'a [u64; 512],
+    sizes: &[u64; 512],
     set: usize,
     part: usize,
 ) -> Split

@@ -1,7 +1,6 @@
 // Writing the plan from Delivered(all, query site) down: delivered and joined call each other, over fewer relations each time.
 use crate::joining::best_join;
-use crate::joining::join_row;
-use crate::joining::permitted;
+use crate::joining::start_row;
 use crate::sending::best_site;
 use crate::splitting::home_of;
 use crate::splitting::only;
@@ -12,6 +11,7 @@ use relations::whole;
 ghost use Prim.Native.Nat.{ℕ, _+_, _^_, _≤_, _<_};
 ghost use mathlib.Core.Path.{_≡_};
 ghost use mathlib.Core.List.{[], _∷_, _++_};
+ghost use lib.Count.{ones};
 ghost use lib.ListN.{length, drop};
 ghost use Rattle.query.specs.Query.{Valid, relationsOf, sitesOf};
 ghost use Rattle.query.specs.Cost.{some};
@@ -42,33 +42,18 @@ fn put_send(out: &mut [u8], at: usize, k: usize, t: usize) -> usize
 
 // The site where a set is joined for delivery at t.
 fn join_site(q: Query, around: [usize; 8], work: &[u64], set: usize, t: usize) -> usize
-    requires { ⌜ Known q around (now work) set × (t < sitesOf q) ⌝ }
+    requires { ⌜ Known q around (now work) set × ((t < sitesOf q) × (ones set ≡ 1 → ⊥)) ⌝ }
     ensures { λ r. ⌜ r ≡ bestSite _+_ q set t ⌝ }
 {
-    let sites = q.sites.count;
     let size = size_of(&q.sizes, set);
-    let tried = join_row(
-        work,
-        &around,
-        &q.joins.first,
-        &q.joins.second,
-        &q.relations.home,
-        &q.relations.index,
-        &q.sizes,
-        &q.sites.fixed,
-        &q.sites.rate,
-        q.joins.count,
-        sites,
-        set,
-    );
-    let row = permitted(tried, &q.sites.may, sites);
+    let row = start_row(work, &around, q.joins, q.relations, &q.sizes, q.sites, set);
     let best = best_site(
         &row,
         &q.lines.flag,
         &q.lines.fixed,
         &q.lines.rate,
         size,
-        sites,
+        q.sites.count,
         t,
     );
     best.at
@@ -82,14 +67,10 @@ fn last_join(q: Query, around: [usize; 8], work: &[u64], set: usize, k: usize) -
     best_join(
         work,
         &around,
-        &q.joins.first,
-        &q.joins.second,
-        &q.relations.home,
-        &q.relations.index,
+        q.joins,
+        q.relations,
         &q.sizes,
-        &q.sites.fixed,
-        &q.sites.rate,
-        q.joins.count,
+        q.sites,
         set,
         k,
     )
@@ -135,8 +116,9 @@ fn write_joined(
 {
     let e = last_join(q, around, work, set, k);
     let part = set & around[e];
+    let rest = set - part;
     let next = write_delivered(q, around, work, &mut *out, at, part, k);
-    let last = write_delivered(q, around, work, &mut *out, next, set - part, k);
+    let last = write_delivered(q, around, work, &mut *out, next, rest, k);
     put(&mut *out, last, 3, e)
 }
 

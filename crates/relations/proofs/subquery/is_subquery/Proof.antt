@@ -1,4 +1,4 @@
--- The test is the one that a tree allows: one join fewer than relations.
+-- The test is one join fewer than relations.
 use Rattle.relations.proofs.Turns.{subquery-test}
 use native.Mathlib.Omega.{arith}
 use lib.Count.{ones-le}
@@ -10,7 +10,7 @@ pub is-subquery-spec : {M : Type 1} → statement M
 is-subquery-spec =
     tie.close
     (tie.spec
-    (λ c. record { fits = omega (arith, ones-le 64 (c .before .before .args .set) (search needs)) })
+    (λ c. record { fits = omega (arith, ones-le 64 (c .args .set) (search needs)) })
     (λ c κs. search needs)
     (λ c. search needs)
     (λ c. search (needs, subquery-test)))

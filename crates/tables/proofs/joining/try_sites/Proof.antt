@@ -1,8 +1,8 @@
 -- `joining::try_sites` meets its contract: each turn tries one site more. Assumes nothing.
 use Prim.Native.Nat.{_-_, _≤_}
-use Rattle.tables.proofs.Turns.{TriedTo, tried-none, tried-more, tried-done}
-use Rattle.tables.specs.Code.{trialOf}
 use borrow.Author.Needs.{needs}
+use Rattle.tables.specs.Code.{trialOf}
+use Rattle.tables.proofs.Turns.{TriedTo, tried-none, tried-more, tried-done}
 use Rattle.tables.proofs.joining.try_sites.Statement.{statement}
 use Rattle.tables.proofs.joining.try_sites.Tie as tie
 

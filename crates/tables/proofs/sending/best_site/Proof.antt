@@ -1,10 +1,10 @@
 -- `sending::best_site` meets its contract: each turn weighs one site more, and a figure and a carriage, each at most that of none, keep below 2^64. Assumes nothing.
 use Prim.Native.Nat.{_-_, _≤_}
+use native.Mathlib.Omega.{arith}
+use borrow.Author.Needs.{needs}
+use Rattle.tables.specs.Code.{ChoiceOf, siteTrial}
 use Rattle.tables.proofs.Figures.{choice-none}
 use Rattle.tables.proofs.Turns.{site-more, choice-done}
-use Rattle.tables.specs.Code.{ChoiceOf, siteTrial}
-use borrow.Author.Needs.{needs}
-use native.Mathlib.Omega.{arith}
 use Rattle.tables.proofs.sending.best_site.Statement.{statement}
 use Rattle.tables.proofs.sending.best_site.Tie as tie
 

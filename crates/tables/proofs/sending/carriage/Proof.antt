@@ -1,7 +1,7 @@
 -- `sending::carriage` meets its contract: each way through it is a case of the definition. Assumes nothing.
 use Prim.Native.Nat.{_+_, _*_}
-use Rattle.tables.proofs.Operands.{stays, sent, closed}
 use borrow.Author.Needs.{needs}
+use Rattle.tables.proofs.Operands.{stays, sent, closed}
 use Rattle.tables.proofs.sending.carriage.Statement.{statement}
 use Rattle.tables.proofs.sending.carriage.Tie as tie
 

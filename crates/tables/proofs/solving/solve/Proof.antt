@@ -1,8 +1,8 @@
 -- `solving::solve` meets its contract: the cell of all relations at the query site says whether there is a way, and the plan is written where there is. Assumes nothing.
-use Rattle.tables.proofs.Answers.{every-low, cheapest-number, cheapest-none, trials-few, answer-found, answer-none, plan-found, plan-none}
-use Rattle.tables.proofs.SetsFilled.{drawn-here}
 use native.Mathlib.Omega.{arith}
 use borrow.Author.Needs.{needs}
+use Rattle.tables.proofs.Answers.{every-low, cheapest-number, cheapest-none, trials-few, answer-found, answer-none, plan-found, plan-none}
+use Rattle.tables.proofs.SetsFilled.{drawn-here}
 use Rattle.tables.proofs.solving.solve.Statement.{statement}
 use Rattle.tables.proofs.solving.solve.Tie as tie
 
@@ -13,9 +13,12 @@ solve-spec =
     (λ c κs. search needs)
     (λ c. let s = c .before .before .before .before .before .before in let q = s .args .q in let v = s .pre .0 in let f = c .before .before .fill .ensures in
     omega (arith, trials-few q v _ _ _ f))
-    (λ c. let s = c .before .before .before .before .before .before .before in let q = s .args .q in let v = s .pre .0 in omega (arith, drawn-here q v .few))
-    (λ c κs. let s = c .before .before .before .before .before .before .before in let q = s .args .q in let v = s .pre .0 in omega (arith, drawn-here q v .few))
-    (λ c κs. let s = c .before .before .before .before .before .before .before .before in let q = s .args .q in let v = s .pre .0 in every-low q v _ (c .whole .ensures))
+    (λ c. let s = c .before .before .before .before .before .before .before in let q = s .args .q in let v = s .pre .0 in
+    omega (arith, drawn-here q v .few))
+    (λ c κs. let s = c .before .before .before .before .before .before .before in let q = s .args .q in let v = s .pre .0 in
+    omega (arith, drawn-here q v .few))
+    (λ c κs. let s = c .before .before .before .before .before .before .before .before in let q = s .args .q in let v = s .pre .0 in
+    every-low q v _ (c .whole .ensures))
     (λ c. search needs)
     (λ c. let f = c .before .before .before .before .before .before .fill .ensures in
     omega (arith, f .cells .room, c .before .place .ensures .1))

@@ -1,6 +1,6 @@
 -- `splitting::spared_at` meets its contract: each way through it is a case of the definition. Assumes nothing.
-use Rattle.tables.proofs.Operands.{spared-many, spared-home, spared-none}
 use borrow.Author.Needs.{needs}
+use Rattle.tables.proofs.Operands.{spared-many, spared-home, spared-none}
 use Rattle.tables.proofs.splitting.spared_at.Statement.{statement}
 use Rattle.tables.proofs.splitting.spared_at.Tie as tie
 

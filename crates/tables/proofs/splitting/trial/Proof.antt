@@ -1,6 +1,6 @@
 -- `splitting::trial` meets its contract: two cells, each at most the figure of none, and a price keep below 2^64. Assumes nothing.
-use borrow.Author.Needs.{needs}
 use native.Mathlib.Omega.{arith}
+use borrow.Author.Needs.{needs}
 use Rattle.tables.proofs.Operands.{cells-fit, trial-is}
 use Rattle.tables.proofs.splitting.trial.Statement.{statement}
 use Rattle.tables.proofs.splitting.trial.Tie as tie

@@ -7,7 +7,7 @@ pub last-join-spec : {M : Type 1} → statement M
 last-join-spec =
     tie.close
     (tie.spec
-    (λ c κs. let s = c .before .before .before .before .before .before .before .before .before .before in let q = s .args .t1 in let k = s .pre .0 in let v = k .valid in
+    (λ c κs. let s = c .before .before .before .before .before .before .before in let q = s .args .t1 in let k = s .pre .0 in
     joinable-at q _ _ _ k _ (s .pre .1))
-    (λ c. let s = c .before .before .before .before .before .before .before .before .before .before .before in let q = s .args .t1 in let k = s .pre .0 in let v = k .valid in
+    (λ c. let s = c .before .before .before .before .before .before .before .before in let q = s .args .t1 in let k = s .pre .0 in
     join-is q _ _ _ k _ _ (s .pre .1) (c .best-join .ensures)))

@@ -1,8 +1,8 @@
 -- `writing::put` meets its contract: two bytes, one after the other. Assumes nothing.
-use Rattle.tables.proofs.Stores.{wrote-two}
-use lib.ListN.{length-set}
 use native.Mathlib.Omega.{arith}
+use lib.ListN.{length-set}
 use borrow.Author.Needs.{needs}
+use Rattle.tables.proofs.Stores.{wrote-two}
 use Rattle.tables.proofs.writing.put.Statement.{statement}
 use Rattle.tables.proofs.writing.put.Tie as tie
 

@@ -1,9 +1,9 @@
 -- `writing::put_send` meets its contract: nothing where the sites are the same, else one step. Assumes nothing.
-use Rattle.tables.proofs.PlanBytes.{send-none, send-bytes}
-use lib.ListN.{length}
-use mathlib.Core.Path.{ap}
 use native.Mathlib.Omega.{arith}
+use mathlib.Core.Path.{ap}
+use lib.ListN.{length}
 use borrow.Author.Needs.{needs}
+use Rattle.tables.proofs.PlanBytes.{send-none, send-bytes}
 use Rattle.tables.proofs.writing.put_send.Statement.{statement}
 use Rattle.tables.proofs.writing.put_send.Tie as tie
 

@@ -1,8 +1,8 @@
 -- `writing::write_plan` meets its contract: the steps from place 1 on, then their count at place 0. Assumes nothing.
-use Rattle.tables.proofs.WholePlan.{plan-start, plan-room, plan-end, plan-long, plan-is}
-use Rattle.tables.proofs.SetsFilled.{drawn-here}
 use native.Mathlib.Omega.{arith}
 use borrow.Author.Needs.{needs}
+use Rattle.tables.proofs.WholePlan.{plan-start, plan-room, plan-end, plan-long, plan-is}
+use Rattle.tables.proofs.SetsFilled.{drawn-here}
 use Rattle.tables.proofs.writing.write_plan.Statement.{statement}
 use Rattle.tables.proofs.writing.write_plan.Tie as tie
 
@@ -10,9 +10,12 @@ pub write-plan-spec : {M : Type 1} → statement M
 write-plan-spec =
     tie.close
     (tie.spec
-    (λ c κs. let s = c .before .before in let q = s .args .q in let v = s .pre .0 .0 in drawn-here q v)
-    (λ c. let s = c .before .before .before .before in let q = s .args .q in let v = s .pre .0 .0 in omega (arith, drawn-here q v .few))
-    (λ c κs. let s = c .before .before .before .before in let q = s .args .q in let v = s .pre .0 .0 in omega (arith, drawn-here q v .few))
+    (λ c κs. let s = c .before .before in let q = s .args .q in let v = s .pre .0 .0 in
+    drawn-here q v)
+    (λ c. let s = c .before .before .before .before in let q = s .args .q in let v = s .pre .0 .0 in
+    omega (arith, drawn-here q v .few))
+    (λ c κs. let s = c .before .before .before .before in let q = s .args .q in let v = s .pre .0 .0 in
+    omega (arith, drawn-here q v .few))
     (λ c κs. let s = c .before .before .before .before .before .before in let q = s .args .q in let v = s .pre .0 .0 in let c′ = s .pre .1 .0 in
     (plan-start q v (c′ .0) (c′ .1) _ _ _ (c .before .before .before .sides .ensures) (s .pre .0 .1) (c .before .whole .ensures), plan-room q v (c′ .0) (c′ .1) (s .args .out .now) _ (c .before .whole .ensures) (s .pre .1 .1)))
     (λ c. search needs)

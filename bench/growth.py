@@ -1,0 +1,54 @@
+"""Draws docs/growth.svg and writes docs/GROWTH.md from the lines of `bench growth`: n s trials product-ns plain-ns."""
+import sys
+
+rows = [[int(x) for x in line.split()] for line in sys.stdin]
+WIDTH, HEIGHT, LEFT, BOTTOM, TOP, RIGHT = 640, 400, 70, 50, 20, 90
+most = max(r[3] for r in rows) / 1000
+shades = ["#c6dbef", "#9ecae1", "#6baed6", "#4292c6", "#2171b5", "#08519c", "#08306b"]
+
+
+def x(n):
+    return LEFT + (n - 3) * (WIDTH - LEFT - RIGHT) / 6
+
+
+def y(us):
+    return HEIGHT - BOTTOM - us * (HEIGHT - BOTTOM - TOP) / most
+
+
+svg = [
+    f'<svg xmlns="http://www.w3.org/2000/svg" viewBox="0 0 {WIDTH} {HEIGHT}" font-family="sans-serif" font-size="12">',
+    f'<rect width="{WIDTH}" height="{HEIGHT}" fill="white"/>',
+]
+for i in range(5):
+    us = most * i / 4
+    svg.append(f'<line x1="{LEFT}" y1="{y(us):.1f}" x2="{WIDTH - RIGHT}" y2="{y(us):.1f}" stroke="#ddd"/>')
+    svg.append(f'<text x="{LEFT - 8}" y="{y(us) + 4:.1f}" text-anchor="end">{us:.0f}</text>')
+for n in range(3, 10):
+    svg.append(f'<text x="{x(n):.1f}" y="{HEIGHT - BOTTOM + 18}" text-anchor="middle">{n}</text>')
+for s in range(2, 9):
+    line = [(r[0], r[3] / 1000) for r in rows if r[1] == s]
+    points = " ".join(f"{x(n):.1f},{y(us):.1f}" for n, us in line)
+    svg.append(f'<polyline points="{points}" fill="none" stroke="{shades[s - 2]}" stroke-width="2"/>')
+    svg.append(f'<text x="{WIDTH - RIGHT + 8}" y="{y(line[-1][1]) + 4:.1f}">{s} sites</text>')
+svg.append(f'<text x="{(LEFT + WIDTH - RIGHT) / 2:.0f}" y="{HEIGHT - 10}" text-anchor="middle">relations in a star</text>')
+svg.append(f'<text x="16" y="{HEIGHT / 2:.0f}" text-anchor="middle" transform="rotate(-90 16 {HEIGHT / 2:.0f})">microseconds a solve</text>')
+svg.append("</svg>")
+with open("docs/growth.svg", "w", encoding="utf8") as f:
+    f.write("\n".join(svg) + "\n")
+
+table = {(r[0], r[1]): r for r in rows}
+page = [
+    "# How solve grows",
+    "",
+    "One solve of a star of n relations at s sites: trials, and the product's time over that of the plain C of bench/ at -O2, the best of ten timings in one run (`make bench ARGS=growth` writes this page and the plot anew). Times are of one machine; the ratios are what to compare.",
+    "",
+    "![microseconds a solve, by relations and sites](growth.svg)",
+    "",
+    "| n | " + " | ".join(f"s = {s}" for s in range(2, 9)) + " |",
+    "|---|" + "---|" * 7,
+]
+for n in range(3, 10):
+    cells = [f"{table[n, s][2]} trials, {table[n, s][3] / table[n, s][4]:.2f}" for s in range(2, 9)]
+    page.append(f"| {n} | " + " | ".join(cells) + " |")
+with open("docs/GROWTH.md", "w", encoding="utf8") as f:
+    f.write("\n".join(page) + "\n")

@@ -1,0 +1,37 @@
+-- The loop has the ends of every join below e.
+use Prim.Native.Nat.{_-_, _≤_}
+use native.Mathlib.Omega.{arith}
+use mathlib.Core.Path.{refl}
+use borrow.Author.Needs.{needs}
+use Rattle.relations.specs.Code.{EndsOf}
+use Rattle.relations.proofs.Turns.{row-none, row-more, row-done, ends-are}
+use Rattle.relations.proofs.subquery.ends.Statement.{statement}
+use Rattle.relations.proofs.subquery.ends.Tie as tie
+
+abbrev Inv-loop : tie.InvT-loop
+Inv-loop joins count found₀ e₀ found e = (e ≤ count) × EndsOf joins found e
+
+abbrev μ-loop : tie.MeasureT-loop
+μ-loop joins count found₀ e₀ found e = count - e
+
+pub ends-spec : {M : Type 1} → statement M
+ends-spec =
+    tie.close
+    (tie.spec
+    Inv-loop
+    μ-loop
+    (λ c. (search needs, row-none _ _ refl))
+    (λ c. search needs)
+    (λ c. search needs)
+    (λ c. search needs)
+    (λ c. search needs)
+    (λ c κs. let s = c .before .before .before .before in
+    omega (arith, s .pre .few, s .pre .first-in (c .before .before .before .loop .e) (search needs)))
+    (λ c κs. let s = c .before .before .before .before .before in
+    omega (arith, s .pre .few, s .pre .second-in (c .before .before .before .before .loop .e) (search needs)))
+    (λ c. search needs)
+    (λ c. search needs)
+    (λ c. search needs)
+    (λ c. search needs)
+    (λ c. (search needs, search (needs, row-more, ends-are)))
+    (λ c. search (needs, row-done)))

@@ -1,0 +1,44 @@
+// For the benchmark: many solves of one query on one planner.
+use planner::Planner;
+use planner::SolveAnswer;
+ghost use Prim.Native.Nat.{_≤_};
+ghost use Rattle.planner.specs.Contracts.{Sound};
+
+// 1 where a plan was found, else 0.
+fn found(a: SolveAnswer) -> u64
+    ensures { λ r. ⌜ r ≤ 1 ⌝ }
+{
+    match a {
+        SolveAnswer::Found { cost: _, trials: _ } => 1,
+        SolveAnswer::NoRoute { trials: _ } => 0,
+        SolveAnswer::Refused(_) => 0,
+    }
+}
+
+// Solves so many times over one work area, and counts the plans that were found.
+fn solves(start: Planner, times: u64) -> u64
+    requires { ⌜ Sound start ⌝ }
+    ensures { λ r. ⌜ r ≤ times ⌝ }
+{
+    let mut cells = [0u64; 4096];
+    let mut p = start;
+    let mut plans = 0;
+    let mut i = 0;
+    while i < times {
+        let d = planner::solve(p, &mut cells);
+        let a = d.answer;
+        plans += found(a);
+        p = d.planner;
+        i += 1;
+    }
+    plans
+}
+
+// Loads a query once and solves it so many times.
+#[no_mangle]
+pub extern "C" fn fanchuki_solves(query: &[u8], times: u64) -> u64
+    ensures { λ r. ⌜ r ≤ times ⌝ }
+{
+    let d = planner::load(planner::empty(), query);
+    solves(d.planner, times)
+}
