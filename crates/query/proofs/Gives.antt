@@ -12,10 +12,6 @@ use Rattle.query.specs.Choice.{pick}
 use Rattle.query.specs.Fields.{Read, refused, value, andThen, number, field, items}
 use Rattle.query.specs.Query.{UpTo}
 
--- Two constructors that are equal would make 0 equal 1.
-pub clash : _≡_ {A = ℕ} 0 1 → ⊥
-clash z = omega arith
-
 abbrev pub Gives : {A : Type 0} → (A → List ℕ → Type 0) → Read A → Type 0
 Gives P (refused k) = (1 ≤ k) × (k ≤ 5)
 Gives P (value a r) = P a r

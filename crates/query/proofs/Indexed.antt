@@ -1,49 +1,20 @@
--- The index rule's law: the lowest relation of a set does not depend on the limit that the set is below, so neither does whether it is read by its index.
-use Prim.Native.Nat.{ℕ, zero, suc, _*_, _/_, _%_, _^_, _≤_, _<_, suc-le-suc}
-use native.Mathlib.Nat.{le-of-suc-le-suc}
+-- The index rule's law: whether a set is read by its index does not depend on the limit that the set is below, as its lowest relation does not.
+use Prim.Native.Nat.{ℕ, _*_, _^_, _≤_, _<_}
 use native.Mathlib.Omega.{arith}
-use mathlib.Core.Path.{_≡_, refl, ap}
+use mathlib.Core.Path.{_≡_, refl}
 use mathlib.Core.Bool.{Bool, true, false, _&&_}
 use mathlib.Core.List.{List}
 use mir.Syntax.{w64}
 use mir.Val.{Fits}
 use lib.ListN.{length, getD}
-use lib.Count.{ones, under, trailingZeros, trailing-le}
+use lib.Count.{ones, trailingZeros, trailing-le}
 use lib.Dec.{eqb}
 use borrow.Author.Tests.{eq-eqb, ne-eqb, eqb-true}
+use Rattle.relations.proofs.Counts.{one-some, lowest-same, lowest-below}
 use Rattle.query.specs.declared.Query.{Query}
 use Rattle.query.specs.Query.{home, index, relationsOf}
 use Rattle.query.specs.Prices.{indexed}
 use Rattle.query.specs.Indexed.{indexedIn}
-
--- The lowest member of a set below 2 ^ n is the same for every greater limit.
-pub lowest-same : (n m S : ℕ) → 0 < S → S < 2 ^ n → n ≤ m → trailingZeros n S ≡ trailingZeros m S
-unfolding trailingZeros
-lowest-same zero m S p h l = absurd (omega arith)
-lowest-same (suc n) zero S p h l = absurd (omega arith)
-lowest-same (suc n) (suc m) S p h l =
-    go (S % 2) refl (λ z. lowest-same n m (S / 2) (omega arith) (omega arith) (le-of-suc-le-suc l))
-  where
-    go : (d : ℕ) → S % 2 ≡ d → (S % 2 ≡ 0 → trailingZeros n (S / 2) ≡ trailingZeros m (S / 2)) →
-        under d (trailingZeros n (S / 2)) ≡ under d (trailingZeros m (S / 2))
-    go zero e f = ap suc (f e)
-    go (suc d) e f = refl
-
--- It is a member: below n.
-pub lowest-below : (n S : ℕ) → 0 < S → S < 2 ^ n → trailingZeros n S < n
-unfolding trailingZeros
-lowest-below zero S p h = absurd (omega arith)
-lowest-below (suc n) S p h = go (S % 2) refl (λ z. lowest-below n (S / 2) (omega arith) (omega arith))
-  where
-    go : (d : ℕ) → S % 2 ≡ d → (S % 2 ≡ 0 → trailingZeros n (S / 2) < n) → under d (trailingZeros n (S / 2)) < suc n
-    go zero e f = suc-le-suc (f e)
-    go (suc d) e f = omega arith
-
--- A set of one relation is not empty.
-one-some : (S : ℕ) → ones S ≡ 1 → 0 < S
-unfolding ones
-one-some zero e = absurd (omega arith)
-one-some (suc S) e = omega arith
 
 -- The index rule for two limits that the set is below.
 pub indexed-same : (n m : ℕ) (homes indexes : List ℕ) (S k : ℕ) → S < 2 ^ n → n ≤ m → indexedIn n homes indexes S k ≡ indexedIn m homes indexes S k
@@ -70,8 +41,11 @@ place-bytes S = record { fits = omega (arith, trailing-le 64 S) }
 nine : (S : ℕ) → ones S ≡ 1 → S < 512 → trailingZeros 9 S ≡ trailingZeros 64 S
 nine S e h = lowest-same 9 64 S (one-some S e) h (omega arith)
 
+pub one-of-nine : (S : ℕ) → ones S ≡ 1 → S < 512 → trailingZeros 64 S < 9
+one-of-nine S e h = omega (arith, nine S e h, lowest-below 9 S (one-some S e) h)
+
 pub place-in : (S : ℕ) (l : List ℕ) → ones S ≡ 1 → S < 512 → 9 ≤ length l → trailingZeros 64 S < length l
-place-in S l e h g = omega (arith, nine S e h, lowest-below 9 S (one-some S e) h)
+place-in S l e h g = omega (arith, one-of-nine S e h)
 
 module _ (homes indexes : List ℕ) (S k : ℕ) where
   pub not-one : (ones S ≡ 1 → ⊥) → false ≡ indexedIn 9 homes indexes S k

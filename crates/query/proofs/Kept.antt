@@ -1,13 +1,14 @@
 -- What the sections keep to once they are read whole, and that joins so read can be grown along and, where they reach every relation, make a tree.
 use Prim.Native.Nat.{ℕ, _+_, _≤_}
 use native.Mathlib.Omega.{arith}
-use mathlib.Core.Path.{_≡_, refl, sym, _∙_}
+use mathlib.Core.Path.{_≡_, sym}
 use mathlib.Core.Bool.{Bool, true}
 use mathlib.Core.List.{List}
 use lib.ListN.{drop}
 use Rattle.relations.specs.declared.Joins.{Joins}
 use Rattle.relations.specs.Trees.{Tree, reaches}
 use Rattle.relations.specs.Code.{Drawn}
+use Rattle.relations.proofs.Drawing.{tree-of}
 use Rattle.query.specs.declared.sections.Outcome.{Outcome}
 use Rattle.query.specs.declared.sections.Outcome.the-variants.{Whole}
 use Rattle.query.specs.declared.Relations.{Relations}
@@ -32,4 +33,4 @@ module _ {s : ℕ} {a : Relations} {J : Joins} (r : RelationsIn s a) (k : JoinsI
 
   pub kept-tree : (b : Bool) → b ≡ reaches J (J .count + 1) → b ≡ true → (J .count ≤ 8) × Tree J (J .count + 1)
   kept-tree b t h =
-      (kept-drawn .few, record { joins = refl; first-in = kept-drawn .first-in; second-in = kept-drawn .second-in; reached = sym t ∙ h })
+      (kept-drawn .few, tree-of J b kept-drawn t h)

@@ -9,6 +9,7 @@ use lib.Dec.{eqb}
 use mir.Syntax.{w64}
 use mir.Val.{Fits}
 use borrow.Author.Tests.{eq-eqb, ne-eqb, eqb-true, eqb-false}
+use Rattle.relations.proofs.Leads.{clash}
 use Rattle.query.specs.declared.Query.{Query}
 use Rattle.query.specs.Choice.{pick}
 use Rattle.query.specs.Cost.{none, some}
@@ -76,14 +77,10 @@ pub carriage-stays : (q : Query) (P k : ℕ) → carriage q P k k ≡ some 0
 unfolding carriage
 carriage-stays q P k = rw (eq-eqb k k refl)
 
--- An open line to another site has its price, a closed one none.
+-- An open line to another site has its price.
 pub carriage-sent : (q : Query) (P k t : ℕ) → (k ≡ t → ⊥) → isOpen q k t ≡ true → carriage q P k t ≡ some (linePrice q P k t)
 unfolding carriage
 carriage-sent q P k t h o = rw (ne-eqb k t h, o)
-
-pub carriage-closed : (q : Query) (P k t : ℕ) → (k ≡ t → ⊥) → isOpen q k t ≡ false → carriage q P k t ≡ none
-unfolding carriage
-carriage-closed q P k t h o = rw (ne-eqb k t h, o)
 
 -- A carriage that is a number is nothing at the same site or the price of an open line to another.
 abbrev pub Carried : Query → ℕ → ℕ → ℕ → ℕ → Type 0
@@ -96,7 +93,7 @@ carried q P k t c e = go (eqb k t) (isOpen q k t) refl refl e
     go : (s o : Bool) → eqb k t ≡ s → isOpen q k t ≡ o → pick s (some 0) (pick o (some (linePrice q P k t)) none) ≡ some c → Carried q P k t c
     go true o h g e = inl (eqb-true k t h, cc)
     go false true h g e = inr (eqb-false k t h, g, cc)
-    go false false h g e = absurd (let z : _≡_ {A = ℕ} 0 1 = cc in omega arith)
+    go false false h g e = absurd (clash (cc))
 
 -- No carriage that is a number is above 1,000,001,000,000.
 pub carriage-most : (q : Query) → Valid q → (P k t c : ℕ) → carriage q P k t ≡ some c → c ≤ 1_000_001_000_000

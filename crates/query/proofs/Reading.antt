@@ -5,11 +5,12 @@ use mathlib.Core.List.{List, []}
 use native.Mathlib.Omega.{arith}
 use lib.ListN.{length, drop}
 use borrow.Author.Tests.{lt-ltb, le-ltb, le-leb, lt-leb}
+use Rattle.relations.proofs.Leads.{clash}
 use Rattle.query.specs.declared.fields.Field.{Field}
 use Rattle.query.specs.declared.fields.Field.the-variants.{Value, Refused}
 use Rattle.query.specs.Fields.{Read, refused, value, number, field, countField}
 use Rattle.query.specs.Code.{fieldOf, faultOf}
-use Rattle.query.proofs.Gives.{clash, field-cases, field-held}
+use Rattle.query.proofs.Gives.{field-cases, field-held}
 
 -- The four ways through a field.
 module _ (w fault low high : ℕ) (l : List ℕ) where

@@ -1,7 +1,4 @@
 -- A file is refused with a number from 1 to 5, as each of its fields, items and sections is.
-use Prim.Native.Nat.{ℕ}
-use mathlib.Core.Path.{_≡_}
-use mathlib.Core.List.{List}
 use Rattle.query.specs.Theorems.{DecodeRefusals}
 use Rattle.query.proofs.Valid.{file-in}
 

@@ -1,11 +1,12 @@
 -- Every decoded query is valid, and a file that gives none is refused with 1 to 5: the sections' ranges, in reading order, make up what a query keeps to.
-use Prim.Native.Nat.{ℕ, _-_, _≤_}
+use Prim.Native.Nat.{ℕ}
 use native.Mathlib.Omega.{arith}
 use mathlib.Core.Path.{_≡_}
 use mathlib.Core.List.{List}
 use lib.ListN.{length}
 use lib.Dec.{eqb}
 use Rattle.relations.specs.Trees.{reaches}
+use Rattle.relations.proofs.Leads.{clash}
 use Rattle.query.specs.declared.Query.{Query}
 use Rattle.query.specs.declared.decoding.Decoded.{Decoded}
 use Rattle.query.specs.declared.sections.Outcome.the-variants.{Whole}
@@ -14,7 +15,7 @@ use Rattle.query.specs.Decode.{sitesSection, relationsSection, joinsSect
 use Rattle.query.specs.Code.{decodedOf}
 use Rattle.query.specs.Query.{Valid, home}
 use Rattle.query.specs.Theorems.{DecodeValid}
-use Rattle.query.proofs.Gives.{Has, gives-then, pick-all, clash}
+use Rattle.query.proofs.Gives.{Has, gives-then, pick-all}
 use Rattle.query.proofs.Ranges.{sites-in, relations-in, joins-in, sizes-in, lines-in, delivery-in}
 
 pub file-in : (file : List ℕ) → Has Valid (decode file)

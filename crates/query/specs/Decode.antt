@@ -1,6 +1,5 @@
 -- The query file, section by section in reading order: document 01's "The query" and refusals 1 to 5.
 use Prim.Native.Nat.{ℕ, _+_, _-_, _*_, _^_}
-use mathlib.Core.Bool.{Bool, true, false}
 use mathlib.Core.List.{List, []}
 use lib.ListN.{length, set, replicate}
 use lib.Dec.{eqb}

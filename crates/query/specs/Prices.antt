@@ -1,6 +1,6 @@
 -- Document 01's "Prices".
 use Prim.Native.Nat.{ℕ, _+_, _*_}
-use mathlib.Core.Bool.{Bool, true, false, _&&_}
+use mathlib.Core.Bool.{Bool, _&&_}
 use lib.Count.{ones}
 use lib.Dec.{eqb}
 use Rattle.relations.specs.Sets.{lowest}

@@ -55,14 +55,6 @@ bit-or A B r = ap (λ (x : ℕ). x % 2) (or-shr A B r) ∙ omega (arith, or-step
 pub and-apart : (A B : ℕ) → Apart A B → bitAnd A B ≡ 0
 and-apart A B p = ext (bitAnd A B) 0 (λ r. omega (arith, bit-and A B r, bit-none r, p r))
 
-pub apart-of-and : (A B : ℕ) → bitAnd A B ≡ 0 → Apart A B
-apart-of-and A B e r =
-    let shared : bit (bitAnd A B) r ≡ bit 0 r = ap (λ (x : ℕ). bit x r) e in
-    omega (arith, bit-and A B r, bit-none r, bit-le A r, bit-le B r)
-
-pub apart-sym : (A B : ℕ) → Apart A B → Apart B A
-apart-sym A B p r = omega (arith, p r)
-
 pub bit-add : (A B : ℕ) → Apart A B → (r : ℕ) → bit (A + B) r ≡ bit A r + bit B r
 bit-add A B p r =
     let sum : bit (bitOr A B) r ≡ bit (A + B) r = ap (λ (x : ℕ). bit x r) (or-disjoint A B (and-apart A B p)) in
@@ -98,7 +90,7 @@ pub bit-pow : (k : ℕ) → bit (2 ^ k) k ≡ 1
 unfolding bit
 bit-pow k = ap (λ (x : ℕ). x % 2) (div-self (pow-pos k))
 
-half-pow : (k : ℕ) → 2 ^ suc k / 2 ≡ 2 ^ k
+pub half-pow : (k : ℕ) → 2 ^ suc k / 2 ≡ 2 ^ k
 half-pow k = omega (arith, pow-suc 2 k)
 
 pub bit-pow-other : (k r : ℕ) → (k ≡ r → ⊥) → bit (2 ^ k) r ≡ 0

@@ -3,13 +3,13 @@
 use Prim.Native.Nat.{ℕ, zero, suc, _+_, _-_, _/_, _%_, _^_, _≤_, _<_}
 use mathlib.Core.Path.{_≡_, refl, sym, ap, _∙_}
 use mathlib.Core.Logic.{inl, inr}
-use native.Mathlib.Nat.{zero-add, pow-suc, eq-zero-or-pos}
+use native.Mathlib.Nat.{zero-add, pow-suc, eq-zero-or-pos, le-of-suc-le-suc}
 use native.Mathlib.Omega.{arith}
 use lib.Arith.{bin-ind}
 use lib.Pow.{pow-lt, pow-pos}
 use lib.Count.{ones, ones-step, trailingZeros, under}
 use Rattle.relations.specs.Sets.{bit, Sub, Apart, put, lowest}
-use Rattle.relations.proofs.Bits.{bit-zero, bit-suc, sub-apart, sub-whole, sub-single, single-apart, bit-range, put-new, pow-cases}
+use Rattle.relations.proofs.Bits.{bit-zero, bit-suc, half-pow, sub-apart, sub-whole, sub-single, single-apart, bit-range, put-new, pow-cases}
 
 pub ones-zero : ones 0 ≡ 0
 unfolding ones
@@ -35,6 +35,10 @@ ones-pos =
     bin-ind (λ (S : ℕ). 0 < S → 0 < ones S) (λ h. omega arith) (λ S ih h.
     elim (eq-zero-or-pos (S / 2)) [ inl e ↦ omega (arith, ones-step S) | inr p ↦ omega (arith, ones-step S, ih p) ])
 
+-- A set of one member is not empty.
+pub one-some : (S : ℕ) → ones S ≡ 1 → 0 < S
+one-some S h = elim (eq-zero-or-pos S) [ inl e ↦ omega (arith, ap ones e, ones-zero) | inr p ↦ p ]
+
 pub ones-none : (S : ℕ) → ones S ≡ 0 → S ≡ 0
 ones-none S h = elim (eq-zero-or-pos S) [ inl e ↦ e | inr p ↦ omega (arith, ones-pos S p) ]
 
@@ -43,17 +47,15 @@ pub sub-full : (A B : ℕ) → Sub A B → ones B ≤ ones A → A ≡ B
 sub-full A B s h = omega (arith, sub-whole A B s, ones-none (B - A) (omega (arith, ones-sub A B s)))
 
 pub ones-pow : (k : ℕ) → ones (2 ^ k) ≡ 1
-ones-pow zero = one
-  where
-    one : ones 1 ≡ 1
-    one = omega (arith, ones-step 1, ones-zero)
-ones-pow (suc k) = ones-step (2 ^ suc k) ∙ omega (arith, pow-suc 2 k, ap ones half, ones-pow k)
-  where
-    half : 2 ^ suc k / 2 ≡ 2 ^ k
-    half = omega (arith, pow-suc 2 k)
+ones-pow zero = omega (arith, ones-step 1, ones-zero)
+ones-pow (suc k) = ones-step (2 ^ suc k) ∙ omega (arith, pow-suc 2 k, ap ones (half-pow k), ones-pow k)
+
+-- One more member.
+pub ones-more : (S k : ℕ) → bit S k ≡ 0 → ones (S + 2 ^ k) ≡ ones S + 1
+ones-more S k h = omega (arith, ones-add S (2 ^ k) (single-apart S k h), ones-pow k)
 
 pub ones-put : (S k : ℕ) → bit S k ≡ 0 → ones (put S k) ≡ ones S + 1
-ones-put S k h = ap ones (put-new S k h) ∙ ones-add S (2 ^ k) (single-apart S k h) ∙ omega (arith, ones-pow k)
+ones-put S k h = ap ones (put-new S k h) ∙ ones-more S k h
 
 -- The lowest member of a set that is not empty is a member.
 pub lowest-in : (n S : ℕ) → 0 < S → S < 2 ^ n → bit S (lowest n S) ≡ 1
@@ -74,7 +76,17 @@ lowest-pow n r l =
 
 pub single-of-ones : (n S : ℕ) → S < 2 ^ n → ones S ≡ 1 → S ≡ 2 ^ lowest n S
 single-of-ones n S h e =
-    sym (sub-full (2 ^ lowest n S) S (sub-single S (lowest n S) (lowest-in n S some h)) (omega (arith, e, ones-pow (lowest n S))))
+    sym (sub-full (2 ^ lowest n S) S (sub-single S (lowest n S) (lowest-in n S (one-some S e) h)) (omega (arith, e, ones-pow (lowest n S))))
+
+-- The lowest member of a set below 2 ^ n is the same for every greater limit.
+pub lowest-same : (n m S : ℕ) → 0 < S → S < 2 ^ n → n ≤ m → trailingZeros n S ≡ trailingZeros m S
+unfolding trailingZeros
+lowest-same zero m S p h l = absurd (omega arith)
+lowest-same (suc n) zero S p h l = absurd (omega arith)
+lowest-same (suc n) (suc m) S p h l =
+    go (S % 2) refl (λ z. lowest-same n m (S / 2) (omega arith) (omega arith) (le-of-suc-le-suc l))
   where
-    some : 0 < S
-    some = elim (eq-zero-or-pos S) [ inl z ↦ omega (arith, e, ap ones z, ones-zero) | inr p ↦ p ]
+    go : (d : ℕ) → S % 2 ≡ d → (S % 2 ≡ 0 → trailingZeros n (S / 2) ≡ trailingZeros m (S / 2)) →
+        under d (trailingZeros n (S / 2)) ≡ under d (trailingZeros m (S / 2))
+    go zero e f = ap suc (f e)
+    go (suc d) e f = refl

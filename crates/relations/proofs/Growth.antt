@@ -51,22 +51,18 @@ module _ (J : Joins) (S x : ℕ) where
       ((i : ℕ) × (e ≤ i) × (i < e + m) × ((j : ℕ) → e ≤ j → j < i → leads J S x A j ≡ false) × (leads J S x A i ≡ true))
       ⊎ ((i : ℕ) → e ≤ i → i < e + m → leads J S x A i ≡ false)
 
+  -- None from e on, where e does not lead out and none after it does.
+  none-from : (A n e : ℕ) → leads J S x A e ≡ false → ((j : ℕ) → e < j → j < n → leads J S x A j ≡ false) → (j : ℕ) → e ≤ j → j < n → leads J S x A j ≡ false
+  none-from A n e p none j a b = elim (eq-or-lt-of-le a) [ inl q ↦ ap (leads J S x A) (sym q) ∙ p | inr q ↦ none j q b ]
+
   seek : (A m e : ℕ) → Lowest A m e
   seek A zero e = inr (λ i l h. absurd (omega arith))
   seek A (suc m) e = go (leads J S x A e) refl (seek A m (suc e))
     where
       go : (t : Bool) → leads J S x A e ≡ t → Lowest A m (suc e) → Lowest A (suc m) e
       go true p later = inl (e, omega arith, omega arith, λ j l h. absurd (omega arith), p)
-      go false p (inl (i, l, h, none, here)) = inl (i, omega arith, omega arith, λ j a b. at j (eq-or-lt-of-le a) b, here)
-        where
-          at : (j : ℕ) → (e ≡ j) ⊎ (e < j) → j < i → leads J S x A j ≡ false
-          at j (inl q) b = ap (leads J S x A) (sym q) ∙ p
-          at j (inr q) b = none j q b
-      go false p (inr none) = inr (λ j a b. at j (eq-or-lt-of-le a) b)
-        where
-          at : (j : ℕ) → (e ≡ j) ⊎ (e < j) → j < e + suc m → leads J S x A j ≡ false
-          at j (inl q) b = ap (leads J S x A) (sym q) ∙ p
-          at j (inr q) b = none j q (omega arith)
+      go false p (inl (i, l, h, none, here)) = inl (i, omega arith, omega arith, none-from A i e p none, here)
+      go false p (inr none) = inr (none-from A (e + suc m) e p (λ j a b. none j a (omega arith)))
 
   pub closed-of-none : (A : ℕ) → ((i : ℕ) → i < J .count → leads J S x A i ≡ false) → Closed J S x A
   closed-of-none A none e l d p q = leads-not J S x A e (none e l) d p q
@@ -133,11 +129,6 @@ module _ (J : Joins) (S x : ℕ) where
 pub growth-least : GrowthLeast
 growth-least J S x k A s h =
     record { has = grow-has J S x k A; within = grow-within J S x k A s; closed = grow-closed J S x k A s h; least = λ C c t. grow-least J S x k A C c t }
-
--- More steps than enough change nothing.
-pub grow-more : (J : Joins) (S x A k l : ℕ) → Sub A S → ones S ≤ ones A + k → ones S ≤ ones A + l → grow J S x k A ≡ grow J S x l A
-grow-more J S x A k l s h g =
-    grown-unique J S x A (grow J S x k A) (grow J S x l A) (growth-least J S x k A s h) (growth-least J S x l A s g)
 
 -- Growth may begin with any join that leads out.
 pub grow-add : (J : Joins) (S x A k i : ℕ) → Sub A S → ones S ≤ ones A + k → i < J .count → Leads J S x A i → grow J S x k (along J A i) ≡ grow J S x k A

@@ -1,7 +1,7 @@
 -- A connected set that one join alone links to the rest of a connected set: taking sets apart at a join, and putting them together.
 -- A closed set of a half, with the other half where it has the join's end, is closed in the whole, so it holds the whole.
 use Prim.Native.Nat.{ℕ, zero, suc, _+_, _<_, min}
-use mathlib.Core.Path.{_≡_, refl}
+use mathlib.Core.Path.{_≡_, refl, sym}
 use mathlib.Core.Logic.{_⊎_, inl, inr}
 use native.Mathlib.Omega.{arith}
 use lib.Bits.{bitAnd}
@@ -18,6 +18,16 @@ pub record Halves (J : Joins) (S P R p q : ℕ) : Type 0 where
   pub there : bit R q ≡ 1
   pub link : (i : ℕ) → i < J .count → bit S (first J i) ≡ 1 → bit S (second J i) ≡ 1
       → (bit P (first J i) ≡ bit P (second J i)) ⊎ ((B : ℕ) → bit B p ≡ bit B q → bit B (first J i) ≡ bit B (second J i))
+
+-- The same, seen from the other half.
+pub turned : (J : Joins) (S P R p q : ℕ) → Halves J S P R p q → Halves J S R P q p
+turned J S P R p q h =
+    record {
+      sums = λ r. omega (arith, h .sums r);
+      here = h .there;
+      there = h .here;
+      link = λ i l f g. elim (h .link i l f g) [ inl same ↦ inl (omega (arith, h .sums (first J i), h .sums (second J i))) | inr linked ↦ inr (λ B e. linked B (sym e)) ];
+    }
 
 pub half-conn : (J : Joins) (S P R p q : ℕ) → Conn J S → Halves J S P R p q → Conn J P
 half-conn J S P R p q c h = record { some = p; some-in = h .here; whole = λ A a r inside taken. by-end A a r inside taken (bit A p) refl }

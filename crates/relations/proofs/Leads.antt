@@ -12,8 +12,12 @@ use Rattle.relations.specs.Growth.{first, second, inside, leads, along}
 use Rattle.relations.proofs.Bits.{bit-le, bit-put, bit-pow, sub-single, put-old}
 use Rattle.relations.proofs.Counts.{ones-put}
 
+-- Two constructors that are equal would make 0 equal 1.
+pub clash : _≡_ {A = ℕ} 0 1 → ⊥
+clash z = omega arith
+
 pub never-both : (t : Bool) → t ≡ true → t ≡ false → ⊥
-never-both t p q = let lie : _≡_ {A = ℕ} 0 1 = cc in omega arith
+never-both t p q = clash (cc)
 
 pub both-true : (a b : Bool) → (a && b) ≡ true → (a ≡ true) × (b ≡ true)
 both-true true b e = (refl, e)
@@ -59,10 +63,6 @@ pub leads-is :
     → leads J S x A e ≡ eqb (bit A (first J e) + bit A (second J e)) 1
 unfolding leads
 leads-is J S x A e d p q = rw (ne-eqb e x d, ends-inside J S e p q)
-
-pub leads-of : (J : Joins) (S x A e : ℕ) → Leads J S x A e → leads J S x A e ≡ true
-leads-of J S x A e o =
-    leads-is J S x A e (o .other) (o .first-in) (o .second-in) ∙ eq-eqb (bit A (first J e) + bit A (second J e)) 1 (o .half)
 
 pub leads-not :
     (J : Joins) (S x A e : ℕ) → leads J S x A e ≡ false → (e ≡ x → ⊥) → bit S (first J e) ≡ 1 → bit S (second J e) ≡ 1

@@ -17,7 +17,7 @@ use Rattle.relations.proofs.Leads.{inside-ends}
 use Rattle.relations.proofs.Growth.{growth-least, grown-unique}
 use Rattle.relations.proofs.Connected.{Conn, conn-of, of-conn, conn-pos, subquery-range, enough}
 use Rattle.relations.proofs.Trees.{side-first, side-second, side-other}
-use Rattle.relations.proofs.Halves.{Halves, half-conn}
+use Rattle.relations.proofs.Halves.{Halves, turned, half-conn}
 
 -- What grows within S without e from e's first relation is the part.
 pub part-grown : (J : Joins) (n S e : ℕ) → S < 2 ^ n → bit S (first J e) ≡ 1 → Grown J S e (2 ^ first J e) (part J n S e)
@@ -26,33 +26,19 @@ part-grown J n S e h p = growth-least J S e n (2 ^ first J e) (sub-single S (fir
 
 module _ (J : Joins) (n : ℕ) (t : Tree J n) (S e : ℕ) (l : e < J .count) (below : S < 2 ^ n) (c : Conn J S) (f : bit S (first J e) ≡ 1)
     (g : bit S (second J e) ≡ 1) where
-  -- Any join but e has both its relations on one side.
-  one-side : (i : ℕ) → i < J .count → (i ≡ e → ⊥) → bit (side J n e) (first J i) ≡ bit (side J n e) (second J i)
-  one-side = side-other J n t e l
-
-  -- Where S is split by the side, its halves are linked by e alone, seen from either.
+  -- Where S is split by the side, its halves are linked by e alone.
   halves : (P R : ℕ) → ((r : ℕ) → bit P r ≡ min (bit S r) (bit (side J n e) r)) → ((r : ℕ) → bit R r ≡ bit S r - bit (side J n e) r)
-      → Halves J S P R (first J e) (second J e) × Halves J S R P (second J e) (first J e)
-  halves P R p r = (
-    record {
-      sums = λ i. omega (arith, p i, r i, bit-le S i, bit-le (side J n e) i);
-      here = omega (arith, p (first J e), side-first J n t e l);
-      there = omega (arith, r (second J e), side-second J n t e l);
-      link = λ i b u w. elim (ℕ-discrete i e) [
-        | yes q ↦ inr (λ B h. subst (λ (j : ℕ). bit B (first J j) ≡ bit B (second J j)) (sym q) h)
-        | no q ↦ inl (omega (arith, p (first J i), p (second J i), one-side i b q))
-      ];
-    },
-    record {
-      sums = λ i. omega (arith, p i, r i, bit-le S i, bit-le (side J n e) i);
-      here = omega (arith, r (second J e), side-second J n t e l);
-      there = omega (arith, p (first J e), side-first J n t e l);
-      link = λ i b u w. elim (ℕ-discrete i e) [
-        | yes q ↦ inr (λ B h. subst (λ (j : ℕ). bit B (first J j) ≡ bit B (second J j)) (sym q) (sym h))
-        | no q ↦ inl (omega (arith, r (first J i), r (second J i), one-side i b q))
-      ];
-    },
-  )
+      → Halves J S P R (first J e) (second J e)
+  halves P R p r =
+      record {
+        sums = λ i. omega (arith, p i, r i, bit-le S i, bit-le (side J n e) i);
+        here = omega (arith, p (first J e), side-first J n t e l);
+        there = omega (arith, r (second J e), side-second J n t e l);
+        link = λ i b u w. elim (ℕ-discrete i e) [
+          | yes q ↦ inr (λ B h. subst (λ (j : ℕ). bit B (first J j) ≡ bit B (second J j)) (sym q) h)
+          | no q ↦ inl (omega (arith, p (first J i), p (second J i), side-other J n t e l i b q))
+        ];
+      }
 
   masked : ℕ
   masked = bitAnd S (side J n e)
@@ -63,13 +49,13 @@ module _ (J : Joins) (n : ℕ) (t : Tree J n) (S e : ℕ) (l : e < J .count) (be
 
   masked-conn : Conn J masked
   unfolding masked
-  masked-conn = half-conn J S masked (S - masked) (first J e) (second J e) c (halves masked (S - masked) masked-bit (bit-less S (side J n e)) .0)
+  masked-conn = half-conn J S masked (S - masked) (first J e) (second J e) c (halves masked (S - masked) masked-bit (bit-less S (side J n e)))
 
   masked-grown : Grown J S e (2 ^ first J e) masked
   masked-grown = record {
     has = sub-single masked (first J e) first-in;
     within = λ r. omega (arith, masked-bit r);
-    closed = λ i b d u w. omega (arith, masked-bit (first J i), masked-bit (second J i), one-side i b d);
+    closed = λ i b d u w. omega (arith, masked-bit (first J i), masked-bit (second J i), side-other J n t e l i b d);
     least = λ C k s. masked-conn .whole C (λ i b d u w.
         k i b (λ q. omega (arith, subst (λ (j : ℕ). bit masked (second J j) ≡ 1) q w, masked-bit (second J e), side-second J n t e l))
         (omega (arith, u, masked-bit (first J i), bit-le S (first J i))) (omega (arith, w, masked-bit (second J i), bit-le S (second J i))))
@@ -95,16 +81,16 @@ module _ (J : Joins) (n : ℕ) (t : Tree J n) (S e : ℕ) (l : e < J .count) (be
   pub conn-split : Split J n S e
   conn-split =
       let two = halves (part J n S e) (rest J n S e) bit-part bit-rest in
-      let first-conn = half-conn J S (part J n S e) (rest J n S e) (first J e) (second J e) c (two .0) in
-      let second-conn = half-conn J S (rest J n S e) (part J n S e) (second J e) (first J e) c (two .1) in
+      let first-conn = half-conn J S (part J n S e) (rest J n S e) (first J e) (second J e) c two in
+      let second-conn = half-conn J S (rest J n S e) (part J n S e) (second J e) (first J e) c (turned J S (part J n S e) (rest J n S e) (first J e) (second J e) two) in
       let sum = ones-sub (part J n S e) S part-within in
       let first-some = ones-pos (part J n S e) (conn-pos J (part J n S e) first-conn) in
       let second-some = ones-pos (rest J n S e) (conn-pos J (rest J n S e) second-conn) in
       record {
         first-part = of-conn J n (part J n S e) (below-of-sub (part J n S e) S n part-within below) first-conn;
         second-part = of-conn J n (rest J n S e) (omega (arith, below)) second-conn;
-        first-in = two .0 .here;
-        second-in = two .1 .here;
+        first-in = two .here;
+        second-in = two .there;
         apart = sub-apart (part J n S e) S part-within;
         whole = sub-whole (part J n S e) S part-within;
         count = sum;

@@ -1,33 +1,49 @@
 -- What the code's loops and calls lean on: one turn of each loop is one step of the definition that the loop computes.
-use Prim.Native.Nat.{ℕ, zero, suc, _+_, _-_, _^_, _≤_, _<_}
+use Prim.Native.Nat.{ℕ, zero, suc, _+_, _^_, _≤_, _<_}
 use mathlib.Core.Path.{_≡_, refl, sym, ap, _∙_}
 use mathlib.Core.Bool.{Bool, true, false, _&&_}
 use mathlib.Core.List.{List}
 use native.Mathlib.Numerals.{add-one}
 use native.Mathlib.Omega.{arith}
-use borrow.Author.Count.{below-more}
+use borrow.Author.Count.{below-none, below-more}
 use borrow.Author.Tests.{eqb-true, eqb-false, eq-eqb, ne-eqb}
 use lib.Bits.{bitAnd}
 use lib.Count.{ones}
 use lib.Dec.{eqb, ltb}
-use lib.ListN.{getD, set, length-set}
+use lib.ListN.{length, getD, set, length-set}
 use lib.Pow.{pow-mono}
 use lib.Seq.{getD-set-same, getD-set-other}
 use Rattle.relations.specs.declared.Joins.{Joins}
 use Rattle.relations.specs.Sets.{bit, put, Sub}
 use Rattle.relations.specs.Growth.{first, second, inside}
-use Rattle.relations.specs.Trees.{isSubquery, countBelow, subqueries, side, joinsIn, Tree}
-use Rattle.relations.specs.Code.{endsOf, tally, wholeIn, subqueryBy, endsBelow, Drawn, SidesOf, EndsOf}
+use Rattle.relations.specs.Trees.{isSubquery, countBelow, subqueries, joinsIn, Tree}
+use Rattle.relations.specs.Code.{endsOf, tally, wholeIn, subqueryBy, endsBelow, Drawn, Row, EndsOf}
 use Rattle.relations.proofs.Bits.{bit-le, bit-and, and-of-sub, bit-pow, bit-put, sub-single}
 use Rattle.relations.proofs.SubqueryCount.{subquery-by-count}
 
+-- A list that has g at the places below k, with g stored at k.
+pub set-next :
+    (l : List ℕ) (g : ℕ → ℕ) (k v : ℕ) → k < length l → ((i : ℕ) → i < k → getD l i 0 ≡ g i) → v ≡ g k → (i : ℕ) → i < k + 1 → getD (set l k v) i 0 ≡ g i
+set-next l g k v long below here =
+    below-more (λ (i : ℕ). getD (set l k v) i 0 ≡ g i) k (λ i h. getD-set-other l k i v 0 (λ q. omega arith) ∙ below i h) (getD-set-same l k v 0 long ∙ here)
+
+-- A row, filled from its first entry on.
+pub row-none : (l : List ℕ) (g : ℕ → ℕ) → length l ≡ 8 → Row l g 0
+row-none l g h = record { eight = h; each = below-none _ }
+
+pub row-more : (l : List ℕ) (g : ℕ → ℕ) (k s v : ℕ) → Row l g k → k < s → s ≤ 8 → v ≡ g k → Row (set l k v) g (k + 1)
+row-more l g k s v r h m e = record { eight = length-set l k v ∙ r .eight; each = set-next l g k v (omega (arith, r .eight)) (r .each) e }
+
+pub row-done : (l : List ℕ) (g : ℕ → ℕ) (k s : ℕ) → Row l g k → s ≤ k → Row l g s
+row-done l g k s r h = record { eight = r .eight; each = λ i below. r .each i (omega arith) }
+
+tally-is : (d : Bool) (n : ℕ) → _≡_ {A = ℕ} (elim d [ true ↦ suc n | false ↦ n ]) (tally d n)
+tally-is true n = refl
+tally-is false n = refl
+
 subqueries-next : (J : Joins) (n S : ℕ) → countBelow J n (suc S) ≡ tally (isSubquery J n S) (countBelow J n S)
 unfolding countBelow
-subqueries-next J n S = go (isSubquery J n S) refl
-  where
-    go : (d : Bool) → isSubquery J n S ≡ d → countBelow J n (suc S) ≡ tally d (countBelow J n S)
-    go true p = rw (p, countBelow)
-    go false p = rw (p, countBelow)
+subqueries-next J n S = tally-is (isSubquery J n S) (countBelow J n S)
 
 -- One join more: the joins in a set by their ends, and the joins whose ends are in range.
 pub whole-more : (l : List ℕ) (S e n r : ℕ) (d : Bool) → n ≡ wholeIn l S e → d ≡ eqb (bitAnd S (getD l e 0)) (getD l e 0) → r ≡ tally d n → r ≡ wholeIn l S (e + 1)
@@ -78,11 +94,7 @@ whole-joins : (J : Joins) (l : List ℕ) (S m : ℕ) → EndsOf J l m → wholeI
 unfolding wholeIn joinsIn
 whole-joins J l S zero h = refl
 whole-joins J l S (suc m) h =
-    rw (h .each m (omega arith), ends-in J S m, whole-joins J l S m (record { eight = h .eight; each = λ e k. h .each e (omega arith) })) (go (inside J S m))
-  where
-    go : (d : Bool) → _≡_ {A = ℕ} (tally d (joinsIn J S m)) (elim d [ true ↦ suc (joinsIn J S m) | false ↦ joinsIn J S m ])
-    go true = refl
-    go false = refl
+    rw (h .each m (omega arith), ends-in J S m, whole-joins J l S m (row-done l (endsOf J) (suc m) m h (omega arith))) (sym (tally-is (inside J S m) (joinsIn J S m)))
 
 pub subquery-by-ends : (J : Joins) (l : List ℕ) (S : ℕ) → Tree J (J .count + 1) → EndsOf J l (J .count) → S < 2 ^ (J .count + 1) → subqueryBy l (J .count) S ≡ isSubquery J (J .count + 1) S
 unfolding subqueryBy
@@ -97,20 +109,10 @@ tested J l S e d t h q k w = q ∙ subquery-by-ends J l S t h (omega arith)
 pub tree-drawn : (J : Joins) → J .count ≤ 8 → Tree J (J .count + 1) → Drawn J
 tree-drawn J h t = record { few = h; first-in = t .first-in; second-in = t .second-in }
 
--- One join's ends more.
-pub ends-found : (J : Joins) (l : List ℕ) (e v w : ℕ) → Drawn J → e < J .count → EndsOf J l e → v ≡ 2 ^ first J e → w ≡ put v (second J e) → EndsOf J (set l e w) (e + 1)
+-- One join's ends.
+pub ends-are : (J : Joins) (e v w : ℕ) → v ≡ 2 ^ first J e → w ≡ put v (second J e) → w ≡ endsOf J e
 unfolding endsOf
-ends-found J l e v w d h s q z =
-    record {
-      eight = length-set l e w ∙ s .eight;
-      each =
-          below-more (λ (i : ℕ). getD (set l e w) i 0 ≡ endsOf J i) e
-          (λ i k. getD-set-other l e i w 0 (omega arith) ∙ s .each i k)
-          (getD-set-same l e w 0 (omega (arith, s .eight, d .few)) ∙ (z ∙ ap (λ (x : ℕ). put x (second J e)) q));
-    }
-
-pub ends-done : (J : Joins) (l : List ℕ) (e : ℕ) → EndsOf J l e → J .count ≤ e → EndsOf J l (J .count)
-ends-done J l e s h = record { eight = s .eight; each = λ i k. s .each i (omega arith) }
+ends-are J e v w q z = z ∙ ap (λ (x : ℕ). put x (second J e)) q
 
 -- One set more: the subqueries below it.
 pub subqueries-more :
@@ -120,23 +122,12 @@ subqueries-more J l S m r e d t h p q z k w =
     let i = tested J l S e d t h q k w in
     cc (add-one S, subqueries-next J (J .count + 1) S)
 
--- One side more.
-pub sides-more : (J : Joins) (l : List ℕ) (e v : ℕ) → Drawn J → e < J .count → SidesOf J l e → v ≡ side J (J .count + 1) e → SidesOf J (set l e v) (e + 1)
-sides-more J l e v d h s q =
-    record {
-      eight = length-set l e v ∙ s .eight;
-      each =
-          below-more (λ (i : ℕ). getD (set l e v) i 0 ≡ side J (J .count + 1) i) e
-          (λ i k. getD-set-other l e i v 0 (omega arith) ∙ s .each i k)
-          (getD-set-same l e v 0 (omega (arith, s .eight, d .few)) ∙ q);
-    }
-
-pub sides-done : (J : Joins) (l : List ℕ) (e : ℕ) → SidesOf J l e → J .count ≤ e → SidesOf J l (J .count)
-sides-done J l e s h = record { eight = s .eight; each = λ i k. s .each i (omega arith) }
-
 pub subqueries-done : (J : Joins) (n S m end : ℕ) → m ≡ countBelow J n S → S ≤ end → end ≤ S → end ≡ 2 ^ n → m ≡ subqueries J n
 subqueries-done J n S m end p l h q = let last : S ≡ 2 ^ n = omega arith in cc
 
 -- The sets of at most nine relations are few.
 pub few-sets : (m s : ℕ) → m ≤ 8 → s ≡ 2 ^ (m + 1) → s ≤ 512
 few-sets m s h q = let most : 2 ^ (m + 1) ≤ 2 ^ 9 = pow-mono {j = 9} (omega arith) in omega arith
+
+pub below-512 : (S n : ℕ) → n ≤ 9 → S < 2 ^ n → S < 512
+below-512 S n l h = omega (arith, pow-mono l)

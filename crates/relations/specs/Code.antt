@@ -36,19 +36,22 @@ pub record FirstLeading (J : Joins) (S x A e : ℕ) : Type 0 where
   pub below : (i : ℕ) → i < e → leads J S x A i ≡ false
   pub found : e < J .count → leads J S x A e ≡ true
 
--- The first m entries of the list are the sides of the first m joins.
-pub record SidesOf (J : Joins) (l : List ℕ) (m : ℕ) : Type 0 where
+-- The first m of eight entries are g 0, g 1, ..
+pub record Row (l : List ℕ) (g : ℕ → ℕ) (m : ℕ) : Type 0 where
   pub eight : length l ≡ 8
-  pub each : (e : ℕ) → e < m → getD l e 0 ≡ side J (J .count + 1) e
+  pub each : (i : ℕ) → i < m → getD l i 0 ≡ g i
+
+-- The sides of the first m joins.
+abbrev pub SidesOf : Joins → List ℕ → ℕ → Type 0
+SidesOf J l m = Row l (side J (J .count + 1)) m
 
 -- The two relations of join e, as a set.
 unfoldable pub endsOf : Joins → ℕ → ℕ
 endsOf J e = put (2 ^ first J e) (second J e)
 
--- The first m entries of the list are the two relations of each of the first m joins.
-pub record EndsOf (J : Joins) (l : List ℕ) (m : ℕ) : Type 0 where
-  pub eight : length l ≡ 8
-  pub each : (e : ℕ) → e < m → getD l e 0 ≡ endsOf J e
+-- The two relations of each of the first m joins.
+abbrev pub EndsOf : Joins → List ℕ → ℕ → Type 0
+EndsOf J l m = Row l (endsOf J) m
 
 -- One more where the test holds.
 abbrev pub tally : Bool → ℕ → ℕ

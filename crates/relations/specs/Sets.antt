@@ -1,8 +1,7 @@
 -- A set of relations (or of sites) is its number: the sum of 2^r over its members r.
 -- Nothing here knows how many relations there are: a law that needs a limit takes it as a parameter.
-use Prim.Native.Nat.{ℕ, _+_, _-_, _*_, _/_, _%_, _^_, _≤_}
-use mathlib.Core.Path.{_≡_}
-use lib.Bits.{bitAnd, bitOr}
+use Prim.Native.Nat.{ℕ, _+_, _-_, _/_, _%_, _^_, _≤_}
+use lib.Bits.{bitOr}
 use lib.Count.{trailingZeros}
 
 -- Membership as a number: 1 where r is in S, else 0.

@@ -1,7 +1,7 @@
 -- What is proved of growth, trees and splits, over the number n of relations as a parameter. The proofs are in proofs/.
-use Prim.Native.Nat.{ℕ, _+_, _-_, _^_, _≤_, _<_}
+use Prim.Native.Nat.{ℕ, _+_, _^_, _≤_, _<_}
 use mathlib.Core.Path.{_≡_}
-use mathlib.Core.Bool.{Bool, true, false, _&&_}
+use mathlib.Core.Bool.{true, _&&_}
 use lib.Bits.{bitAnd}
 use lib.Count.{ones}
 use lib.Dec.{ltb, eqb}

@@ -13,7 +13,7 @@ use Rattle.query.specs.Query.{Valid, relationsOf}
 use Rattle.rules.specs.declared.Held.{Held}
 use Rattle.rules.specs.declared.Stepped.{Stepped}
 use Rattle.rules.specs.declared.Outcome.the-variants.{Went, Refused}
-use Rattle.rules.specs.Machine.{Machine, start, Outcome, went, refused, step}
+use Rattle.rules.specs.Machine.{Machine, start, went, step}
 use Rattle.rules.specs.Plans.{stepsOf, Verdict, accepted, rejected, after, finish, run, checked}
 use Rattle.rules.specs.Code.{topFirst, machineOf, outcomeOf, numberOf, ofEnd, ofParts, Room}
 use Rattle.rules.proofs.Outcomes.{step-same}

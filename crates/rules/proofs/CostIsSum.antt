@@ -8,6 +8,7 @@ use lib.ListN.{length}
 use lib.Dec.{eqb, leb, ltb}
 use native.Mathlib.Omega.{arith}
 use Rattle.relations.specs.Sets.{bit, all}
+use Rattle.relations.proofs.Leads.{clash}
 use Rattle.query.specs.declared.Query.{Query}
 use Rattle.query.specs.Choice.{pick}
 use Rattle.query.specs.Query.{relationsOf, sitesOf, mayJoin, isOpen}
@@ -89,7 +90,7 @@ run-costs q i (x ∷ xs) m = go (step _+_ q (x .kind) (x .arg) m) (step-adds q x
 
 costs-at : (v : Verdict) (x c : ℕ) → Costs v x → v ≡ accepted c → c ≡ x
 costs-at (accepted d) x c h e = cc
-costs-at (rejected k i) x c h e = absurd (let lie : _≡_ {A = ℕ} 0 1 = cc in omega arith)
+costs-at (rejected k i) x c h e = absurd (clash (cc))
 
 pub cost-is-sum : CostIsSum
 unfolding checked
@@ -97,4 +98,4 @@ cost-is-sum q count bytes c h = go ((leb 1 count && leb count 34) && eqb (length
   where
     go : (b : Bool) → pick b (run _+_ q 0 (stepsOf bytes) start) (rejected 7 0) ≡ accepted c → c ≡ spent q (stepsOf bytes) start
     go true h = omega (arith, costs-at (run _+_ q 0 (stepsOf bytes) start) _ c (run-costs q 0 (stepsOf bytes) start) h)
-    go false h = absurd (let lie : _≡_ {A = ℕ} 0 1 = cc in omega arith)
+    go false h = absurd (clash (cc))

@@ -17,7 +17,6 @@ use Rattle.query.specs.Decode.{noRelations, noJoins}
 use Rattle.query.specs.Prices.{linePrice, reads, joinPrice, indexed}
 use Rattle.query.specs.Indexed.{indexedIn}
 use Rattle.query.proofs.Indexed.{indexed-in}
-use Rattle.rules.specs.declared.Origin.{Origin}
 use Rattle.rules.specs.declared.Origin.the-variants.{Sent, Joined}
 use Rattle.rules.specs.declared.Held.{Held}
 use Rattle.rules.specs.Machine.{charge, isBare, sentTo, spared, joinOf}
@@ -32,9 +31,6 @@ past-end l i h = sym (List·getD-eq-default l 0 h)
 pub no-line : (l : List ℕ) (a b : ℕ) → length l ≡ 64 → 8 ≤ a → 0 ≡ getD l (8 * a + b) 0
 no-line l a b e h = past-end l (8 * a + b) (omega arith)
 
-pub below-512 : (S n : ℕ) → n ≤ 9 → S < 2 ^ n → S < 512
-below-512 S n l h = omega (arith, pow-mono l)
-
 pub spared-is : (R : Relations) (h : Held) (a b : Bool) → R .count ≤ 9 → h .set < 2 ^ R .count → a ≡ isBare (h .origin) →
     b ≡ indexedIn 9 (R .home) (R .index) (h .set) (h .site) → (a && b) ≡ spared (ofRelations R) h
 unfolding spared
@@ -44,9 +40,6 @@ pub sent-is : (q : Query) (h : Held) (t f r z p : ℕ) → f ≡ lineFixed q (h 
     _≡_ {A = Held} (record { set = h .set; site = t; origin = Sent; figure = charge (h .figure .0 + p) }) (sentTo q t h)
 unfolding linePrice
 sent-is q h t f r z p e1 e2 e3 e4 = rw (e4, e1, e2, e3)
-
-pub sum-below : (a b n : ℕ) → n ≤ 9 → a + b < 2 ^ n → a + b < 512
-sum-below a b n l h = omega (arith, pow-mono l)
 
 pub sum-fits : (a b n : ℕ) → n ≤ 9 → a + b < 2 ^ n → Fits w64 (a + b)
 sum-fits a b n l h = record { fits = omega (arith, pow-mono l) }

@@ -4,16 +4,17 @@ use mathlib.Core.Path.{_≡_, refl}
 use mathlib.Core.Bool.{false, not, _&&_}
 use mathlib.Core.List.{List, [], _∷_}
 use native.Mathlib.Omega.{arith}
-use lib.Count.{ones, ones-le}
+use lib.Count.{ones-le}
 use lib.Pow.{pow-pos, pow-mono, pow-lt}
 use lib.Dec.{eqb, ltb}
 use mir.Syntax.{w64}
 use mir.Val.{Fits}
 use borrow.Author.Tests.{ltb-true, eqb-true, not-true}
-use Rattle.relations.specs.Sets.{bit, Sub, all}
-use Rattle.relations.proofs.Bits.{single-apart, bit-add, sub-all, sub-single, bit-all, below-of-sub, all-below}
-use Rattle.relations.proofs.Counts.{ones-add, ones-pow}
-use Rattle.relations.proofs.Leads.{both-true}
+use Rattle.relations.specs.Sets.{bit}
+use Rattle.relations.proofs.Bits.{single-apart}
+use Rattle.relations.proofs.Counts.{ones-more}
+use Rattle.relations.proofs.Leads.{both-true, clash}
+use Rattle.relations.proofs.Unions.{sum-below}
 use Rattle.query.specs.declared.Query.{Query}
 use Rattle.query.specs.Query.{Valid, relationsOf, sitesOf, mayJoin, isOpen}
 use Rattle.query.proofs.Prices.{line-most, join-most}
@@ -22,20 +23,13 @@ use Rattle.rules.specs.declared.Origin.the-variants.{Bare, Sent, Joined}
 use Rattle.rules.specs.declared.Held.{Held}
 use Rattle.rules.specs.Machine.{Machine, start, Outcome, went, refused, isSent, load, sendTop, send, links, spared, joinTop, join, step}
 use Rattle.rules.specs.Plans.{Step}
-use Rattle.rules.specs.Code.{Room, topFirst, slack, sets, figures}
+use Rattle.rules.specs.Code.{Room, topFirst, slack}
 use Rattle.rules.proofs.Steps.{guarded, step-cases}
 use Rattle.rules.proofs.Stacks.{depth-is}
 
 -- A set of relations with one more of them.
-pub more-below : (n S r : ℕ) → S < 2 ^ n → r < n → bit S r ≡ 0 → S + 2 ^ r < 2 ^ n
-more-below n S r h l fresh = below-of-sub (S + 2 ^ r) (all n) n within (all-below n)
-  where
-    within : Sub (S + 2 ^ r) (all n)
-    within i =
-        omega (arith, bit-add S (2 ^ r) (single-apart S r fresh) i, single-apart S r fresh i, sub-all S n h i, sub-single (all n) r (bit-all n r l) i)
-
-pub more-ones : (S r : ℕ) → bit S r ≡ 0 → ones (S + 2 ^ r) ≡ ones S + 1
-more-ones S r fresh = omega (arith, ones-add S (2 ^ r) (single-apart S r fresh), ones-pow r)
+more-below : (n S r : ℕ) → S < 2 ^ n → r < n → bit S r ≡ 0 → S + 2 ^ r < 2 ^ n
+more-below n S r h l fresh = sum-below S (2 ^ r) n (single-apart S r fresh) h (pow-lt l)
 
 slack-low : (o : Origin) → 4_000_002_000_000 ≤ slack o
 slack-low Bare = omega arith
@@ -44,7 +38,7 @@ slack-low Joined = omega arith
 
 slack-unsent : (o : Origin) → isSent o ≡ false → slack o ≡ 5_000_003_000_000
 slack-unsent Bare e = refl
-slack-unsent Sent e = absurd (let lie : _≡_ {A = ℕ} 0 1 = cc in omega arith)
+slack-unsent Sent e = absurd (clash (cc))
 slack-unsent Joined e = refl
 
 pub start-room : (n : ℕ) → Room n start
@@ -63,7 +57,7 @@ load-room q r m room =
     let fresh = eqb-true (bit (m .loaded) r) 0 new in
     record {
       in-all = more-below (relationsOf q) (m .loaded) r (room .in-all) (ltb-true r (relationsOf q) known) fresh;
-      few = omega (arith, more-ones (m .loaded) r fresh);
+      few = omega (arith, ones-more (m .loaded) r fresh);
       parts = omega arith;
       small = omega (arith, pow-pos r);
     }
@@ -116,7 +110,7 @@ module _ (n L : ℕ) (a : List Held) (d : ℕ) (room : Room n (record { loaded =
   pub depth-free : (r v : ℕ) → r < n → v ≡ bit L r → v ≡ 0 → d < 9
   depth-free r v h b z =
       let fresh : bit L r ≡ 0 = omega arith in
-      omega (arith, room .few, depth-is a d, more-ones L r fresh, ones-le n (L + 2 ^ r) (more-below n L r (room .in-all) h fresh))
+      omega (arith, room .few, depth-is a d, ones-more L r fresh, ones-le n (L + 2 ^ r) (more-below n L r (room .in-all) h fresh))
 
 module _ (n L : ℕ) (s hs : List Held) (room : Room n (record { loaded = L; stack = s })) where
   pub loaded-fits : (r w : ℕ) → n ≤ 9 → r < n → w ≡ 2 ^ r → Fits w64 (L + w)

@@ -7,6 +7,7 @@ use lib.ListN.{length}
 use native.Mathlib.Omega.{arith}
 use borrow.Author.Tests.{lt-ltb, eq-eqb, ne-eqb}
 use Rattle.relations.specs.Sets.{bit}
+use Rattle.relations.proofs.Leads.{clash}
 use Rattle.query.specs.declared.Query.{Query}
 use Rattle.query.specs.Query.{relationsOf, sitesOf, mayJoin, isOpen}
 use Rattle.rules.specs.declared.Held.{Held}
@@ -70,4 +71,4 @@ ran-ends combine q (x ∷ xs) i m n e = go (step combine q (x .kind) (x .arg) m)
     go (went k) later e =
         let same : suc i + length xs ≡ i + suc (length xs) = omega arith in
         later k n e ∙ ap (λ (j : ℕ). finish q j (n .stack)) same
-    go (refused k) later e = absurd (let lie : _≡_ {A = ℕ} 0 1 = cc in omega arith)
+    go (refused k) later e = absurd (clash (cc))

@@ -1,7 +1,7 @@
 -- A whole plan: a count byte, 1 to 34, then two bytes a step. Refusals 7 and 12, the places of refusals, and which plans are allowed.
 use Prim.Native.Nat.{ℕ, suc, _+_, _*_}
 use mathlib.Core.Path.{_≡_}
-use mathlib.Core.Bool.{Bool, true, false, _&&_}
+use mathlib.Core.Bool.{_&&_}
 use mathlib.Core.List.{List, [], _∷_}
 use lib.ListN.{length}
 use lib.Dec.{eqb, leb}

@@ -2,7 +2,7 @@
 use Prim.Native.Nat.{ℕ, _+_, _*_, _^_, _≤_, _<_}
 use native.Mathlib.Nat.{mul-le-mul}
 use native.Mathlib.Omega.{arith}
-use mathlib.Core.Path.{_≡_, refl, sym, ap, _∙_}
+use mathlib.Core.Path.{_≡_, refl, sym, ap}
 use mathlib.Core.List.{List, _++_}
 use lib.ListN.{length, getD, drop}
 use lib.Pow.{pow-mono}
@@ -19,7 +19,7 @@ use Rattle.tables.specs.Code.{place, noneMark, mark, FilledFrom}
 use Rattle.tables.specs.Solved.{solvedAs, planAfter}
 use Rattle.tables.proofs.Marks.{UpToOr}
 use Rattle.tables.proofs.Columns.{set-low, delivered-up-to}
-use Rattle.tables.proofs.SetsFilled.{joins-few}
+use Rattle.tables.proofs.SetsFilled.{all-here, joins-few}
 
 marked-number : (c : Cost) (x : ℕ) → x ≡ mark c → x < noneMark → c ≡ some x
 marked-number none x e h = absurd (omega arith)
@@ -30,15 +30,12 @@ marked-none none x e u h = refl
 marked-none (some c) x e u h = absurd (omega arith)
 
 module _ (q : Query) (v : Valid q) (S : ℕ) (e : S ≡ all (q .joins .count + 1)) where
-  every : S ≡ all (relationsOf q)
-  every = e ∙ ap all (v .tree .joins)
-
   pub every-low : (S < 512) × (q .target < 8)
-  every-low = (set-low q v S (rw every (all-below (relationsOf q))), omega (arith, v .target-in, v .sites-most))
+  every-low = (set-low q v S (rw (all-here q v S e) (all-below (relationsOf q))), omega (arith, v .target-in, v .sites-most))
 
   module _ (old work : List ℕ) (r at : ℕ) (f : FilledFrom q old work r) (is : at ≡ place S (q .target)) where
     cell : getD work at 0 ≡ mark (cheapest _+_ q)
-    cell = rw (is, every) (f .cells .each (all (relationsOf q)) (q .target) (all-below (relationsOf q)) (subqueries-law (q .joins) (relationsOf q) (v .tree) .whole) (v .target-in))
+    cell = rw (is, all-here q v S e) (f .cells .each (all (relationsOf q)) (q .target) (all-below (relationsOf q)) (subqueries-law (q .joins) (relationsOf q) (v .tree) .whole) (v .target-in))
 
     pub cheapest-number : getD work at 0 < noneMark → cheapest _+_ q ≡ some (getD work at 0)
     cheapest-number h = marked-number (cheapest _+_ q) (getD work at 0) cell h

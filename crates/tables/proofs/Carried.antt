@@ -13,10 +13,9 @@ use Rattle.query.specs.Choice.{pick}
 use Rattle.query.specs.Cost.{none, some}
 use Rattle.query.specs.Query.{Valid, relationsOf, home, index, joinFixed, joinRate, isOpen, lineFixed, lineRate, size}
 use Rattle.query.specs.Prices.{linePrice, carriage, reads, joinPrice, indexed}
-use Rattle.query.proofs.Indexed.{lowest-same}
+use Rattle.relations.proofs.Counts.{one-some, lowest-same}
 use Rattle.query.proofs.Prices.{carriage-most}
 use Rattle.tables.specs.Code.{mark, sparedAt, carriageAt}
-use Rattle.tables.proofs.Operands.{one-some}
 use Rattle.tables.proofs.Marks.{UpToOr, up-to-is}
 
 -- The lowest relation of a set of one is the query's.

@@ -9,15 +9,15 @@ use lib.Bits.{bitAnd}
 use lib.Count.{ones, trailingZeros}
 use lib.Dec.{eqb}
 use lib.ListN.{getD}
-use lib.Pow.{pow-mono}
 use borrow.Author.Tests.{eqb-true}
 use Rattle.relations.specs.Growth.{inside}
 use Rattle.relations.specs.Trees.{Subquery, side}
 use Rattle.relations.specs.Theorems.{Split}
 use Rattle.relations.specs.Code.{SidesOf}
 use Rattle.relations.proofs.Splits.{split, part-by-side, Smaller, split-smaller}
-use Rattle.relations.proofs.Counts.{lowest-below}
+use Rattle.relations.proofs.Counts.{one-some, lowest-below}
 use Rattle.relations.proofs.Connected.{subquery-range}
+use Rattle.relations.proofs.Turns.{below-512}
 use Rattle.query.specs.declared.Query.{Query}
 use Rattle.query.specs.Choice.{pick}
 use Rattle.query.specs.Cost.{none, some, both, plus}
@@ -27,9 +27,9 @@ use Rattle.query.proofs.Prices.{join-most}
 use Rattle.tables.specs.Least.{Best, best, least}
 use Rattle.tables.specs.Tables.{firstPart, otherPart, only, byJoin, joinedBy, bySite, delivered, joined}
 use Rattle.tables.specs.Plan.{bestSite}
-use Rattle.tables.specs.Code.{place, noneMark, mark, leastOf, placeOf, splitOf, trialOf, Triable, Lent, lentOf, joinIn, splitBy, joinTrial, Joinable, HomeLow, Row, joinedBelow, bareAt, startAt, siteTrial, deliveredAt, Marked, Filled}
+use Rattle.relations.specs.Code.{Row}
+use Rattle.tables.specs.Code.{place, noneMark, mark, leastOf, placeOf, splitOf, trialOf, Triable, Lent, lentOf, joinIn, splitBy, joinTrial, Joinable, HomeLow, joinedBelow, bareAt, startAt, siteTrial, deliveredAt, Marked, Filled}
 use Rattle.tables.proofs.Most.{delivered-most, joined-most}
-use Rattle.tables.proofs.Operands.{one-some}
 use Rattle.tables.proofs.Marks.{UpToOr, Shows, Kept, mark-most, kept-all, shows-joined, shows-sent, shows-more, up-to-is}
 use Rattle.tables.proofs.Started.{startCost, started-same, delivered-started}
 use Rattle.tables.proofs.Carried.{only-is, price-is, carriage-is, carriage-up-to}
@@ -40,7 +40,7 @@ lentBy q work around = lentOf work around (q .joins) (q .relations) (q .sizes) (
 
 -- A set of relations is below 512.
 pub set-low : (q : Query) → Valid q → (S : ℕ) → S < 2 ^ relationsOf q → S < 512
-set-low q v S h = omega (arith, pow-mono {i = relationsOf q} {j = 9} (v .relations-most))
+set-low q v S h = below-512 S (relationsOf q) (v .relations-most) h
 
 -- The home of the relation of a set of one is one of eight sites.
 pub home-low : (q : Query) → Valid q → (S : ℕ) → S < 2 ^ relationsOf q → HomeLow (q .relations .home) S

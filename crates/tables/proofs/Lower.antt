@@ -13,7 +13,7 @@ use Rattle.relations.specs.Growth.{first, second}
 use Rattle.relations.specs.Trees.{Subquery}
 use Rattle.relations.specs.Theorems.{Union}
 use Rattle.relations.proofs.Counts.{ones-add, ones-pow, lowest-pow}
-use Rattle.relations.proofs.Leads.{both-true}
+use Rattle.relations.proofs.Leads.{both-true, clash}
 use Rattle.relations.proofs.Unions.{union}
 use Rattle.relations.proofs.Subqueries.{subqueries-law}
 use Rattle.query.specs.declared.Query.{Query}
@@ -62,7 +62,7 @@ module _ (combine : ℕ → ℕ → ℕ) (laws : Combines combine) (q : Query) (
   sends Bare S k t x s l away opened fresh (one, there) =
       at-most-is (delivered combine q S t) (linePrice q S k t) (x + linePrice q S k t)
       (delivered-one combine q v S t s one ∙ ap (λ (a : ℕ). carriage q S a t) there ∙ carriage-sent q S k t away opened) (omega arith)
-  sends Sent S k t x s l away opened fresh b = absurd (let lie : _≡_ {A = ℕ} 0 1 = cc in omega arith)
+  sends Sent S k t x s l away opened fresh b = absurd (clash (cc))
   sends Joined S k t x s l away opened fresh (b, more) =
       delivered-within combine q v S t k (x + linePrice q S k t) s more l
       (plus-most (joined combine q S k) (carriage q S k t) x (linePrice q S k t) b

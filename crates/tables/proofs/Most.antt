@@ -9,6 +9,7 @@ use native.Mathlib.Omega.{arith}
 use Rattle.relations.specs.Sets.{Apart, all}
 use Rattle.relations.specs.Trees.{Subquery}
 use Rattle.relations.proofs.Counts.{ones-add, ones-pow}
+use Rattle.relations.proofs.Leads.{clash}
 use Rattle.query.specs.declared.Query.{Query}
 use Rattle.query.specs.Cost.{some}
 use Rattle.query.specs.Query.{Valid, relationsOf, sitesOf, home, mayJoin, isOpen}
@@ -90,7 +91,7 @@ module _ (q : Query) (v : Valid q) where
 
   fresh-none : (o : Origin) → isSent o ≡ false → sendMost o ≡ 0
   fresh-none Bare e = refl
-  fresh-none Sent e = absurd (let lie : _≡_ {A = ℕ} 0 1 = cc in omega arith)
+  fresh-none Sent e = absurd (clash (cc))
   fresh-none Joined e = refl
 
   limited : Keeps _+_ q Limited

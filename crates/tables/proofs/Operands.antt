@@ -1,5 +1,5 @@
 -- Laws of a join's operands: where a read is spared, each way through the look-up as a case of the definition, and what a trial comes to.
-use Prim.Native.Nat.{ℕ, zero, suc, _+_, _-_, _*_, _^_, _≤_, _<_}
+use Prim.Native.Nat.{ℕ, _+_, _*_, _^_, _≤_}
 use native.Mathlib.Nat.{le-refl}
 use native.Mathlib.Omega.{arith}
 use mathlib.Core.Path.{_≡_}
@@ -9,21 +9,8 @@ use lib.Count.{ones, trailingZeros}
 use lib.Dec.{eqb}
 use borrow.Author.Tests.{eq-eqb, ne-eqb}
 use Rattle.query.specs.Prices.{reads}
-use Rattle.query.proofs.Indexed.{lowest-same, lowest-below}
 use Rattle.tables.specs.declared.splitting.Split.{Split}
 use Rattle.tables.specs.Code.{place, noneMark, sparedAt, trialOf, carriageAt}
-
--- A set of one relation is not empty, and its relation is one of nine.
-pub one-some : (S : ℕ) → ones S ≡ 1 → 0 < S
-unfolding ones
-one-some S e = go S e
-  where
-    go : (S : ℕ) → ones S ≡ 1 → 0 < S
-    go zero e = absurd (omega arith)
-    go (suc S) e = omega arith
-
-pub one-of-nine : (S : ℕ) → ones S ≡ 1 → S < 512 → trailingZeros 64 S < 9
-one-of-nine S e h = omega (arith, lowest-same 9 64 S (one-some S e) h (omega arith), lowest-below 9 S (one-some S e) h)
 
 module _ (homes indexes : List ℕ) (S : ℕ) where
   pub spared-many : (ones S ≡ 1 → ⊥) → 8 ≡ sparedAt homes indexes S

@@ -14,7 +14,8 @@ use Rattle.query.specs.Query.{Valid, relationsOf, sitesOf, home}
 use Rattle.tables.specs.declared.cells.Choice.{Choice}
 use Rattle.tables.specs.Tables.{firstPart, otherPart}
 use Rattle.tables.specs.Plan.{sendIfDue, bestSite, bestJoin, joinedSteps, deliveredSteps, writtenDelivered, writtenJoined, stepBytes, joinStep}
-use Rattle.tables.specs.Code.{joinTrial, mark, Joinable, HomeLow, Row, startAt, siteTrial, placeOf, ChoiceOf, Marked, Filled, Wrote, Known, ToDeliver, ToJoin}
+use Rattle.relations.specs.Code.{Row}
+use Rattle.tables.specs.Code.{joinTrial, mark, Joinable, HomeLow, startAt, siteTrial, placeOf, ChoiceOf, Marked, Filled, Wrote, Known, ToDeliver, ToJoin}
 use Rattle.tables.proofs.Tables.{ones-some, ByJoin, delivered-found, joined-found}
 use Rattle.tables.proofs.Written.{written-is}
 use Rattle.tables.proofs.Carried.{only-is}

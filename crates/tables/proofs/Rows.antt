@@ -1,6 +1,6 @@
 -- The eleven rows hold, by computation.
 use mathlib.Core.Path.{_≡_, refl}
-use mathlib.Core.Bool.{Bool, true}
+use mathlib.Core.Bool.{true}
 use lib.Count.{ones, onesIn, trailingZeros}
 use Rattle.relations.specs.Sets.{bit, put}
 use Rattle.relations.specs.Growth.{inside, leads, step, grow}

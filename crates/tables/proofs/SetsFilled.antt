@@ -14,6 +14,7 @@ use lib.Seq.{ext-getD, getD-drop}
 use mir.Syntax.{w64}
 use mir.Val.{Fits}
 use Rattle.relations.specs.declared.Joins.{Joins}
+use Rattle.relations.specs.Sets.{all}
 use Rattle.relations.specs.Trees.{isSubquery, Subquery, Tree}
 use Rattle.relations.specs.Code.{Drawn, EndsOf, subqueryBy, SidesOf}
 use Rattle.relations.proofs.Turns.{tested}
@@ -24,7 +25,8 @@ use Rattle.query.specs.declared.Query.{Query}
 use Rattle.query.specs.Choice.{pick}
 use Rattle.query.specs.Query.{Valid, relationsOf, sitesOf}
 use Rattle.tables.specs.Tables.{delivered, joinsBelow}
-use Rattle.tables.specs.Code.{place, mark, deliveredAt, Joinable, HomeLow, Row, startAt, Marked, Priced, Stored, Filled, FilledFrom}
+use Rattle.relations.specs.Code.{Row}
+use Rattle.tables.specs.Code.{place, mark, deliveredAt, Joinable, HomeLow, startAt, Marked, Priced, Stored, Filled, FilledFrom}
 use Rattle.tables.proofs.Tables.{ones-some}
 use Rattle.tables.proofs.Figures.{place-low, place-apart}
 use Rattle.tables.proofs.Started.{startCost}
@@ -94,6 +96,9 @@ module _ (q : Query) (v : Valid q) where
 
   not-here : (S : ℕ) (d : Bool) → d ≡ isSubquery (q .joins) (q .joins .count + 1) S → d ≡ false → isSubquery (q .joins) (relationsOf q) S ≡ false
   not-here S d e t = subst (λ (n : ℕ). isSubquery (q .joins) n S ≡ false) (v .tree .joins) (sym e ∙ t)
+
+  pub all-here : (S : ℕ) → S ≡ all (q .joins .count + 1) → S ≡ all (relationsOf q)
+  all-here S e = e ∙ ap all (v .tree .joins)
 
   pub end-here : (e : ℕ) → e ≡ 2 ^ (q .joins .count + 1) → EndOf q e
   end-here e h =
@@ -193,10 +198,10 @@ module _ (q : Query) (v : Valid q) where
 -- After the last set every subquery is filled.
 pub going-done : (q : Query) (old work : List ℕ) (S r e : ℕ) → Going q old work S r → S ≤ e → e ≤ S → EndOf q e → FilledFrom q old work r
 going-done q old work S r e g h k end =
-    let all : S ≡ 2 ^ relationsOf q = le-antisymm h k ∙ end .is in
+    let last : S ≡ 2 ^ relationsOf q = le-antisymm h k ∙ end .is in
     record {
-      cells = subst (λ (m : ℕ). Filled q work m) all (g .cells);
+      cells = subst (λ (m : ℕ). Filled q work m) last (g .cells);
       long = g .long;
       later = g .later;
-      joins = g .joins ∙ ap (joinsBelow (q .joins) (relationsOf q)) all;
+      joins = g .joins ∙ ap (joinsBelow (q .joins) (relationsOf q)) last;
     }

@@ -1,5 +1,5 @@
 -- Each turn of a loop over sites or joins keeps what the loop has shown so far, and after the last turn it is what the function promises.
-use Prim.Native.Nat.{ℕ, _+_, _-_, _^_, _≤_, _<_}
+use Prim.Native.Nat.{ℕ, _+_, _^_, _≤_, _<_}
 use native.Mathlib.Numerals.{add-one}
 use native.Mathlib.Nat.{le-antisymm}
 use native.Mathlib.Omega.{arith}
@@ -13,26 +13,13 @@ use lib.Dec.{eqb}
 use borrow.Author.Tests.{eq-eqb, ne-eqb, eqb-true, eqb-false}
 use borrow.Author.Count.{below-more}
 use Rattle.relations.specs.Sets.{bit}
+use Rattle.relations.proofs.Turns.{set-next}
 use Rattle.query.specs.Choice.{pick}
 use Rattle.tables.specs.declared.cells.Choice.{Choice}
 use Rattle.tables.specs.declared.splitting.Split.{Split}
-use Rattle.tables.specs.Code.{place, noneMark, lesser, leastOf, placeOf, ChoiceOf, betterOf, trialOf, splitBy, Lent, joinIn, joinTrial, Triable, Joinable, Row, Tried, joinedBelow, permittedAt, bareAt, startAt, carriageAt, siteTrial, deliveredAt, Stored}
+use Rattle.relations.specs.Code.{Row}
+use Rattle.tables.specs.Code.{place, noneMark, lesser, leastOf, placeOf, ChoiceOf, betterOf, trialOf, splitBy, Lent, joinIn, joinTrial, Triable, Joinable, Tried, joinedBelow, permittedAt, bareAt, startAt, carriageAt, siteTrial, deliveredAt, Stored}
 use Rattle.tables.proofs.Figures.{place-apart, lesser-kept, least-most, choice-more, choice-same}
-
--- A row, filled from its first site on.
-pub row-none : (row : List ℕ) (g : ℕ → ℕ) → length row ≡ 8 → Row row g 0
-row-none row g h = record { eight = h; each = λ k l. absurd (omega arith) }
-
-pub row-more : (row : List ℕ) (g : ℕ → ℕ) (k s v : ℕ) → Row row g k → k < s → s ≤ 8 → v ≡ g k → Row (set row k v) g (k + 1)
-row-more row g k s v r l m e =
-    let long : k < length row = omega (arith, r .eight) in
-    record {
-      eight = length-set row k v ∙ r .eight;
-      each = below-more (λ i. getD (set row k v) i 0 ≡ g i) k (λ i h. getD-set-other row k i v 0 (λ q. omega arith) ∙ r .each i h) (getD-set-same row k v 0 long ∙ e);
-    }
-
-pub row-done : (row : List ℕ) (g : ℕ → ℕ) (k s : ℕ) → Row row g k → s ≤ k → Row row g s
-row-done row g k s r l = record { eight = r .eight; each = λ i h. r .each i (omega arith) }
 
 -- A row that is tried against new figures from its first site on.
 pub record TriedTo (old new : List ℕ) (g : ℕ → ℕ) (k : ℕ) : Type 0 where
@@ -45,11 +32,9 @@ tried-none old g h = record { eight = h; below = λ i l. absurd (omega arith); a
 
 pub tried-more : (old new : List ℕ) (g : ℕ → ℕ) (k s t v : ℕ) → TriedTo old new g k → k < s → s ≤ 8 → t ≡ g k → v ≡ lesser t (getD new k 0) → TriedTo old (set new k v) g (k + 1)
 tried-more old new g k s t v r l m e f =
-    let long : k < length new = omega (arith, r .eight) in
-    let here : getD (set new k v) k 0 ≡ lesser (g k) (getD old k 0) = getD-set-same new k v 0 long ∙ f ∙ rw (e, r .above k (omega arith)) in
     record {
       eight = length-set new k v ∙ r .eight;
-      below = below-more (λ i. getD (set new k v) i 0 ≡ lesser (g i) (getD old i 0)) k (λ i h. getD-set-other new k i v 0 (λ q. omega arith) ∙ r .below i h) here;
+      below = set-next new (λ i. lesser (g i) (getD old i 0)) k v (omega (arith, r .eight)) (r .below) (f ∙ rw (e, r .above k (omega arith)));
       above = λ i h. getD-set-other new k i v 0 (λ q. omega arith) ∙ r .above i (omega arith);
     }
 

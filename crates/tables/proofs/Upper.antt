@@ -29,6 +29,7 @@ use Rattle.tables.specs.Tables.{firstPart, otherPart, delivered}
 use Rattle.tables.specs.Plan.{joinStep, sendIfDue, bestSite, bestJoin, joinedSteps, deliveredSteps, stepsUpTo, writtenDelivered, writtenSteps, stepBytes, planBytes}
 use Rattle.tables.specs.Theorems.{WrittenLaw}
 use Rattle.tables.proofs.Tables.{ones-some, ones-most, ByJoin, BySite, joined-found, delivered-found}
+use Rattle.tables.proofs.Stores.{step-bytes-long}
 use Rattle.tables.proofs.Sends.{heldAt, Puts, Delivers, more-unindexed, due, delivers-one}
 
 module _ (combine : ℕ → ℕ → ℕ) (q : Query) where
@@ -129,16 +130,12 @@ steps-back : (xs : List Step) → stepsOf (stepBytes xs) ≡ xs
 steps-back [] = refl
 steps-back (x ∷ xs) = rw (steps-back xs)
 
-bytes-length : (xs : List Step) → length (stepBytes xs) ≡ 2 * length xs
-bytes-length [] = refl
-bytes-length (x ∷ xs) = omega (arith, bytes-length xs)
-
 -- Steps that put every relation at the query site make an allowed plan.
 plan-allowed : (combine : ℕ → ℕ → ℕ) (q : Query) (xs : List Step) (c : ℕ) → Delivers combine q xs (all (relationsOf q)) (q .target) c → length xs ≤ 34 →
     checked combine q (planBytes xs) ≡ accepted c
 unfolding checked finish
 plan-allowed combine q xs c d few =
-    rw (le-leb 1 (length xs) (d .long), le-leb (length xs) 34 few, eq-eqb (length (stepBytes xs)) (2 * length xs) (bytes-length xs), steps-back xs)
+    rw (le-leb 1 (length xs) (d .long), le-leb (length xs) 34 few, eq-eqb (length (stepBytes xs)) (2 * length xs) (step-bytes-long xs), steps-back xs)
     (ran-ends combine q xs 0 start _ (d .puts start (λ i. omega (arith, bit-none i, bit-le (all (relationsOf q)) i)))
     ∙ rw (eq-eqb (all (relationsOf q)) (all (relationsOf q)) refl, eq-eqb (q .target) (q .target) refl))
 

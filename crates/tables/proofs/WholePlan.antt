@@ -1,7 +1,7 @@
 -- The whole plan: all relations at the query site, at most 34 steps, so 69 bytes are room enough; its count goes before its steps.
 use Prim.Native.Nat.{ℕ, _+_, _-_, _/_, _^_, _≤_}
 use native.Mathlib.Omega.{arith}
-use mathlib.Core.Path.{_≡_, sym, ap, subst, _∙_}
+use mathlib.Core.Path.{_≡_, sym, subst}
 use mathlib.Core.List.{List, _++_}
 use lib.ListN.{length, drop, set}
 use Rattle.relations.specs.Sets.{all}
@@ -15,6 +15,7 @@ use Rattle.tables.specs.Plan.{writtenDelivered, writtenSteps, stepBytes,
 use Rattle.tables.specs.Code.{Filled, Wrote, ToDeliver}
 use Rattle.tables.proofs.Upper.{written-law}
 use Rattle.tables.proofs.Optimum.{plus-combines}
+use Rattle.tables.proofs.SetsFilled.{all-here}
 use Rattle.tables.proofs.Stores.{step-bytes-long, plan-stored}
 
 module _ (q : Query) (v : Valid q) (c : ℕ) (number : cheapest _+_ q ≡ some c) where
@@ -25,13 +26,10 @@ module _ (q : Query) (v : Valid q) (c : ℕ) (number : cheapest _+_ q ≡ some c
   pub written-most : length (written _+_ q) ≤ 69
   written-most = omega (arith, step-bytes-long (writtenSteps _+_ q), few-steps)
 
-  pub every-is : (S : ℕ) → S ≡ all (q .joins .count + 1) → S ≡ all (relationsOf q)
-  every-is S e = e ∙ ap all (v .tree .joins)
-
   pub plan-start : (around work : List ℕ) (S : ℕ) → SidesOf (q .joins) around (q .joins .count) → Filled q work (2 ^ relationsOf q) → S ≡ all (q .joins .count + 1) →
       ToDeliver q around work S (q .target)
   plan-start around work S sides filled e =
-      subst (λ (X : ℕ). ToDeliver q around work X (q .target)) (sym (every-is S e))
+      subst (λ (X : ℕ). ToDeliver q around work X (q .target)) (sym (all-here q v S e))
       (record {
         known = record { valid = v; sides = sides; filled = filled; subquery = subqueries-law (q .joins) (relationsOf q) (v .tree) .whole };
         listed = v .target-in;
@@ -40,7 +38,7 @@ module _ (q : Query) (v : Valid q) (c : ℕ) (number : cheapest _+_ q ≡ some c
       })
 
   steps-long : (S : ℕ) → S ≡ all (q .joins .count + 1) → length (stepBytes (writtenDelivered _+_ q S (q .target))) ≤ 68
-  steps-long S e = rw (every-is S e) (omega (arith, step-bytes-long (writtenSteps _+_ q), few-steps))
+  steps-long S e = rw (all-here q v S e) (omega (arith, step-bytes-long (writtenSteps _+_ q), few-steps))
 
   pub plan-room : (l : List ℕ) (S : ℕ) → S ≡ all (q .joins .count + 1) → 69 ≤ length l → 1 + length (stepBytes (writtenDelivered _+_ q S (q .target))) ≤ length l
   plan-room l S e h = omega (arith, steps-long S e)
@@ -50,7 +48,7 @@ module _ (q : Query) (v : Valid q) (c : ℕ) (number : cheapest _+_ q ≡ some c
     plan-end = omega (arith, w .next, steps-long S e)
 
     wrote : Wrote l 1 (stepBytes (writtenSteps _+_ q)) r m
-    wrote = rw (every-is S e) at w
+    wrote = rw (all-here q v S e) at w
 
     pub plan-long : r ≡ length (written _+_ q)
     plan-long = omega (arith, wrote .next)

@@ -132,11 +132,6 @@ pub record Joinable (l : Lent) (S m s : ℕ) : Type 0 where
   pub set-in : S < 512
   pub each : (e k : ℕ) → e < m → joinIn l S e ≡ true → k < s → Triable (l .work) (l .fixed) (l .rate) (splitBy l S e) k
 
--- A row with the figure g k for each site k below s.
-pub record Row (row : List ℕ) (g : ℕ → ℕ) (s : ℕ) : Type 0 where
-  pub eight : length row ≡ 8
-  pub each : (k : ℕ) → k < s → getD row k 0 ≡ g k
-
 -- The row with the figure g k for each site k below s where it is less.
 pub record Tried (old new : List ℕ) (g : ℕ → ℕ) (s : ℕ) : Type 0 where
   pub eight : length new ≡ 8

@@ -1,6 +1,5 @@
 -- The written plan, from Delivered(all, query site) down. Ties: lowest site k, then lowest join e.
-use Prim.Native.Nat.{ℕ, zero, suc, _*_}
-use mathlib.Core.Bool.{Bool, true, false}
+use Prim.Native.Nat.{ℕ, zero, suc}
 use mathlib.Core.List.{List, [], _∷_, _++_}
 use lib.ListN.{length}
 use lib.Count.{ones}

@@ -7,8 +7,6 @@ use lib.Dec.{eqb}
 use Rattle.relations.specs.declared.Joins.{Joins}
 use Rattle.relations.specs.Sets.{all}
 use Rattle.relations.specs.Trees.{subqueries}
-use Rattle.query.specs.declared.Sites.{Sites}
-use Rattle.query.specs.declared.Relations.{Relations}
 use Rattle.query.specs.declared.Lines.{Lines}
 use Rattle.query.specs.declared.Query.{Query}
 use Rattle.query.specs.Choice.{pick}

@@ -1,7 +1,6 @@
 -- Document 01's "The two tables", equations (8) and (9) of source 001: Delivered and Joined, by each other over fewer relations.
 -- The combination of two operands' figures is a parameter: for costs it is the sum.
 use Prim.Native.Nat.{ℕ, zero, suc, _+_, _-_, _*_, _^_}
-use mathlib.Core.Bool.{Bool, true, false}
 use lib.Count.{ones}
 use lib.Dec.{eqb}
 use Rattle.relations.specs.Sets.{all, lowest}
@@ -13,7 +12,7 @@ use Rattle.query.specs.Choice.{pick}
 use Rattle.query.specs.Cost.{Cost, none, some, both, plus}
 use Rattle.query.specs.Query.{relationsOf, sitesOf, home, mayJoin}
 use Rattle.query.specs.Prices.{carriage, joinPrice, indexed}
-use Rattle.tables.specs.Least.{least, lowestAt}
+use Rattle.tables.specs.Least.{least}
 
 -- The parts of S by join e: the one with e's first relation, and the other.
 abbrev pub firstPart : Query → ℕ → ℕ → ℕ

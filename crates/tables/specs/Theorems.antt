@@ -7,7 +7,7 @@ use mathlib.Core.List.{List}
 use lib.ListN.{length}
 use Rattle.relations.specs.Trees.{Subquery}
 use Rattle.query.specs.declared.Query.{Query}
-use Rattle.query.specs.Cost.{Cost, none, some, AtMost}
+use Rattle.query.specs.Cost.{none, some, AtMost}
 use Rattle.query.specs.Query.{Valid, relationsOf}
 use Rattle.rules.specs.Plans.{AllowedAt}
 use Rattle.tables.specs.Tables.{deliveredBy, delivered, joined, cheapest}

@@ -16,7 +16,8 @@ ghost use mathlib.Core.Path.{_≡_};
 ghost use lib.Dec.{eqb};
 ghost use lib.ListN.{length};
 ghost use Rattle.query.specs.Choice.{pick};
-ghost use Rattle.tables.specs.Code.{noneMark, Triable, trialOf, Tried, lentOf, Joinable, HomeLow, Row, joinedBelow, joinTrial, permittedAt, bareAt, startAt, placeOf};
+ghost use Rattle.relations.specs.Code.{Row};
+ghost use Rattle.tables.specs.Code.{noneMark, Triable, trialOf, Tried, lentOf, Joinable, HomeLow, joinedBelow, joinTrial, permittedAt, bareAt, startAt, placeOf};
 
 // The row with the figures of one join where they are less.
 fn try_sites<'a>(

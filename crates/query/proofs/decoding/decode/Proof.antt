@@ -1,6 +1,6 @@
 -- `decode` reads the sections in order, each from where the last one ended. At each place the answer is what the definition reads from there on: the
 -- section just read takes it one further or ends it.
-use Prim.Native.Nat.{ℕ, _+_, _≤_}
+use Prim.Native.Nat.{ℕ, _+_}
 use mathlib.Core.Path.{_≡_}
 use mathlib.Core.List.{List}
 use denote.Ref.{now}

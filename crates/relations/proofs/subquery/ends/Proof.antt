@@ -1,11 +1,10 @@
 -- The loop has the ends of every join below e.
 use Prim.Native.Nat.{_-_, _≤_}
 use native.Mathlib.Omega.{arith}
-use native.Mathlib.Nat.{not-suc-le-zero}
 use mathlib.Core.Path.{refl}
 use borrow.Author.Needs.{needs}
 use Rattle.relations.specs.Code.{EndsOf}
-use Rattle.relations.proofs.Turns.{ends-found, ends-done}
+use Rattle.relations.proofs.Turns.{row-none, row-more, row-done, ends-are}
 use Rattle.relations.proofs.subquery.ends.Statement.{statement}
 use Rattle.relations.proofs.subquery.ends.Tie as tie
 
@@ -21,7 +20,7 @@ ends-spec =
     (tie.spec
     Inv-loop
     μ-loop
-    (λ c. (search needs, record { eight = refl; each = λ e h. absurd (not-suc-le-zero h) }))
+    (λ c. (search needs, row-none _ _ refl))
     (λ c. search needs)
     (λ c. search needs)
     (λ c. search needs)
@@ -34,5 +33,5 @@ ends-spec =
     (λ c. search needs)
     (λ c. search needs)
     (λ c. search needs)
-    (λ c. (search needs, search (needs, ends-found)))
-    (λ c. search (needs, ends-done)))
+    (λ c. (search needs, search (needs, row-more, ends-are)))
+    (λ c. search (needs, row-done)))

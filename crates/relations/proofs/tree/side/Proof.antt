@@ -20,5 +20,5 @@ side-spec =
     let ends = ends-low (s .args .t1) (s .args .e) (s .pre .0) (s .pre .1) in
     omega arith)
     (λ c κs. let d = c .before .before .before .pre .0 in
-    search (needs, single-growable, d .first-in, d .second-in))
+    search (needs, single-growable, d .first-in))
     (λ c. cc))

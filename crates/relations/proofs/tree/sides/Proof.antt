@@ -1,10 +1,9 @@
 -- The loop has stored the side of every join below e.
 use Prim.Native.Nat.{_-_, _≤_}
 use mathlib.Core.Path.{refl}
-use borrow.Author.Count.{below-none}
 use borrow.Author.Needs.{needs}
 use Rattle.relations.specs.Code.{SidesOf}
-use Rattle.relations.proofs.Turns.{sides-more, sides-done}
+use Rattle.relations.proofs.Turns.{row-none, row-more, row-done}
 use Rattle.relations.proofs.tree.sides.Statement.{statement}
 use Rattle.relations.proofs.tree.sides.Tie as tie
 
@@ -20,11 +19,11 @@ sides-spec =
     (tie.spec
     Inv-loop
     μ-loop
-    (λ c. (search needs, record { eight = refl; each = below-none _ }))
+    (λ c. (search needs, row-none _ _ refl))
     (λ c κs. search needs)
     (λ c. search needs)
     (λ c. search needs)
     (λ c. search needs)
     (λ c. search needs)
-    (λ c. (search needs, search (needs, sides-more)))
-    (λ c. search (needs, sides-done)))
+    (λ c. (search needs, search (needs, row-more)))
+    (λ c. search (needs, row-done)))

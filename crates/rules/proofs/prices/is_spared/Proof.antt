@@ -1,6 +1,7 @@
 -- `prices::is_spared` meets its contract: the index rule is that of the lists, and the set is below the limit. Assumes nothing.
 use borrow.Author.Needs.{needs}
-use Rattle.rules.proofs.Pricing.{below-512, spared-is}
+use Rattle.rules.proofs.Pricing.{spared-is}
+use Rattle.relations.proofs.Turns.{below-512}
 use Rattle.rules.proofs.prices.is_spared.Statement.{statement}
 use Rattle.rules.proofs.prices.is_spared.Tie as tie
 

@@ -1,9 +1,12 @@
 -- `joining::join_row` meets its contract: each turn tries one join more. Assumes nothing.
 use Prim.Native.Nat.{_-_, _≤_}
 use native.Mathlib.Omega.{arith}
+use mathlib.Core.Path.{_≡_}
+use mathlib.Core.Bool.{true}
 use lib.Bits.{and-le-l}
 use borrow.Author.Needs.{needs}
-use Rattle.tables.specs.Code.{lentOf, Row, joinedBelow}
+use Rattle.relations.specs.Code.{Row}
+use Rattle.tables.specs.Code.{Lent, lentOf, joinIn, joinedBelow}
 use Rattle.tables.proofs.Turns.{join-in, join-out, join-triable, joined-none, joined-more, joined-same, row-same}
 use Rattle.tables.proofs.joining.join_row.Statement.{statement}
 use Rattle.tables.proofs.joining.join_row.Tie as tie
@@ -13,6 +16,13 @@ Inv-loop work around sizes set joins relations sites count row₀ e₀ row e = (
 
 abbrev μ-loop : tie.MeasureT-loop
 μ-loop work around sizes set joins relations sites count row₀ e₀ row e = count - e
+
+-- The lists that the function is lent, and a join that lies in the set.
+abbrev lists : tie.Start Inv-loop μ-loop → Lent
+lists s = lentOf (s .args .work .now) (s .args .around .now) (s .args .t3) (s .args .t4) (s .args .sizes .now) (s .args .t6)
+
+inside : (c : tie.Then1 Inv-loop μ-loop) → joinIn (lists (c .before .before .before .before .before .before .before .before)) (c .before .before .before .before .before .before .before .before .args .set) (c .before .before .before .before .before .before .loop .e) ≡ true
+inside c = join-in (lists (c .before .before .before .before .before .before .before .before)) (c .before .before .before .before .before .before .before .before .args .set) (c .before .before .before .before .before .before .loop .e) _ _ (c .before .before .before .bit .ensures .0) (c .before .bit2 .ensures .0) (c .if1 .taken)
 
 pub join-row-spec : {M : Type 1} → statement M
 join-row-spec =
@@ -31,20 +41,15 @@ join-row-spec =
     (λ c. search needs)
     (λ c. search needs)
     (λ c κs. (and-le-l _ _, c .before .before .before .before .before .before .before .before .before .before .before .before .pre .set-in))
-    (λ c κs. let s = c .before .before .before .before .before .before .before .before .before .before .before .before .before .before .before .before .before in
-    let l = lentOf (s .args .work .now) (s .args .around .now) (s .args .t3) (s .args .t4) (s .args .sizes .now) (s .args .t6) in
-    let i = join-in l (s .args .set) (c .before .before .before .before .before .before .before .before .before .before .before .before .before .before .before .loop .e) _ _ (c .before .before .before .before .before .before .before .before .before .before .before .before .bit .ensures .0) (c .before .before .before .before .before .before .before .before .before .before .bit2 .ensures .0) (c .before .before .before .before .before .before .before .before .before .if1 .taken) in
-    ((s .pre .few-sites, c .before .before .before .before .before .before .before .before .before .before .before .before .before .before .before .loop .inv .1 .eight), join-triable l (s .args .set) (c .before .before .before .before .before .before .before .before .before .before .before .before .before .before .before .loop .e) _ _ _ (s .pre) (c .before .before .before .before .before .before .before .before .before .before .before .before .before .before .loop-test .taken) i (c .before .before .before .before .split-of .ensures)))
+    (λ c κs. let i = c .before .before .before .before .before .before .before .before .before in let s = i .before .before .before .before .before .before .before .before in
+    ((s .pre .few-sites, i .before .before .before .before .before .before .loop .inv .1 .eight), join-triable (lists s) (s .args .set) (i .before .before .before .before .before .before .loop .e) _ _ _ (s .pre) (i .before .before .before .before .before .loop-test .taken) (inside i) (c .before .before .before .before .split-of .ensures)))
     (λ c. omega (arith, c .before .before .before .before .before .before .before .before .before .before .before .before .before .before .before .loop-test .taken, c .before .before .before .before .before .before .before .before .before .before .before .before .before .before .before .before .before .before .pre .few-joins))
     (λ c. omega (arith, c .before .before .before .before .before .before .before .before .before .before .before .before .before .before .before .loop-test .taken))
-    (λ c. let s = c .before .before .before .before .before .before .before .before .before .before .before .before .before .before .before .before .before .before in
-    let l = lentOf (s .args .work .now) (s .args .around .now) (s .args .t3) (s .args .t4) (s .args .sizes .now) (s .args .t6) in
-    let i = join-in l (s .args .set) (c .before .before .before .before .before .before .before .before .before .before .before .before .before .before .before .before .loop .e) _ _ (c .before .before .before .before .before .before .before .before .before .before .before .before .before .bit .ensures .0) (c .before .before .before .before .before .before .before .before .before .before .before .bit2 .ensures .0) (c .before .before .before .before .before .before .before .before .before .before .if1 .taken) in
-    (omega (arith, c .before .before .before .before .before .before .before .before .before .before .before .before .before .before .before .loop-test .taken), joined-more l (s .args .set) (c .before .before .before .before .before .before .before .before .before .before .before .before .before .before .before .before .loop .e) _ _ _ _ (c .before .before .before .before .before .before .before .before .before .before .before .before .before .before .before .before .loop .inv .1) i (c .before .before .before .before .before .split-of .ensures) (c .try-sites .ensures)))
+    (λ c. let i = c .before .before .before .before .before .before .before .before .before .before in let s = i .before .before .before .before .before .before .before .before in
+    (omega (arith, i .before .before .before .before .before .loop-test .taken), joined-more (lists s) (s .args .set) (i .before .before .before .before .before .before .loop .e) _ _ _ _ (i .before .before .before .before .before .before .loop .inv .1) (inside i) (c .before .before .before .before .before .split-of .ensures) (c .try-sites .ensures)))
     (λ c. search needs)
     (λ c. search needs)
     (λ c. let s = c .before .before .before .before .before .before .before .before in
-    let l = lentOf (s .args .work .now) (s .args .around .now) (s .args .t3) (s .args .t4) (s .args .sizes .now) (s .args .t6) in
-    let i = join-out l (s .args .set) (c .before .before .before .before .before .before .loop .e) _ _ (c .before .before .before .bit .ensures .0) (c .before .bit2 .ensures .0) (c .if1 .left) in
-    (search needs, joined-same l (s .args .set) (c .before .before .before .before .before .before .loop .e) _ _ (c .before .before .before .before .before .before .loop .inv .1) i))
+    let out = join-out (lists s) (s .args .set) (c .before .before .before .before .before .before .loop .e) _ _ (c .before .before .before .bit .ensures .0) (c .before .bit2 .ensures .0) (c .if1 .left) in
+    (search needs, joined-same (lists s) (s .args .set) (c .before .before .before .before .before .before .loop .e) _ _ (c .before .before .before .before .before .before .loop .inv .1) out))
     (λ c. search (needs, row-same)))

@@ -1,8 +1,10 @@
 -- `joining::permitted` meets its contract: each turn settles one site more. Assumes nothing.
 use Prim.Native.Nat.{_-_, _≤_}
 use borrow.Author.Needs.{needs}
-use Rattle.tables.specs.Code.{Row, permittedAt}
-use Rattle.tables.proofs.Turns.{row-none, row-more, row-done, permitted-at}
+use Rattle.relations.specs.Code.{Row}
+use Rattle.tables.specs.Code.{permittedAt}
+use Rattle.relations.proofs.Turns.{row-none, row-more, row-done}
+use Rattle.tables.proofs.Turns.{permitted-at}
 use Rattle.tables.proofs.joining.permitted.Statement.{statement}
 use Rattle.tables.proofs.joining.permitted.Tie as tie
 

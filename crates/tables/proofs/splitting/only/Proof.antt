@@ -1,7 +1,6 @@
 -- `splitting::only` meets its contract: the lowest relation of a set of one, which is one of nine. Assumes nothing.
 use borrow.Author.Needs.{needs}
-use Rattle.query.proofs.Indexed.{place-fits}
-use Rattle.tables.proofs.Operands.{one-of-nine}
+use Rattle.query.proofs.Indexed.{place-fits, one-of-nine}
 use Rattle.tables.proofs.splitting.only.Statement.{statement}
 use Rattle.tables.proofs.splitting.only.Tie as tie
 
