@@ -9,6 +9,8 @@ use crate::Planner;
 use crate::ReadAnswer;
 use crate::SolveAnswer;
 use query::Charge;
+use query::MOST_FIXED;
+use query::MOST_RATE;
 use query::Outcome;
 use query::Query;
 use rules::Checked;
@@ -80,7 +82,7 @@ fn sites_listed(s: u64, sender: u64, receiver: u64) -> bool
 fn terms_in_range(opened: u64, fixed: u64, rate: u64) -> bool
     ensures { λ r. ⌜ r ≡ termsInRange (record { flag = opened; fixed = fixed; rate = rate }) ⌝ }
 {
-    (opened <= 1) & (fixed <= 1000000) & (rate <= 1000)
+    (opened <= 1) & (fixed <= MOST_FIXED) & (rate <= MOST_RATE)
 }
 
 // The query with the line from the sender to the receiver replaced.

@@ -20,7 +20,7 @@ LineMost = (q : Query) → Valid q → (P a b : ℕ) → linePrice q P a b ≤ 1
 abbrev pub JoinMost : Type 0
 JoinMost = (q : Query) → Valid q → (k : ℕ) (a : Bool) (P : ℕ) (b : Bool) (R : ℕ) → joinPrice q k a P b R ≤ 3_000_001_000_000
 
--- The order of the operands does not matter to a join's price, and sparing a read never makes it dearer.
+-- The order of a join's operands does not matter to their reads.
 abbrev pub ReadsEither : Type 0
 ReadsEither = (a : Bool) (x : ℕ) (b : Bool) (y : ℕ) → reads a x b y ≡ reads b y a x
 
