@@ -13,9 +13,7 @@ outside:
 	tests/outside.sh
 
 bench:
-	bench/run.sh
+	bench/run.sh $(ARGS)
 
 test:
-	rt fmt --check
-	tests/outside.sh
-	rt ci
+	tests/all.sh
