@@ -1,4 +1,5 @@
 -- The join's first relation grows within all relations, skipping the join.
+-- Both ends' ranges are listed at the call, so that growth from the other end is refused at the return, where it is wrong, and not here.
 use native.Mathlib.Omega.{arith}
 use Rattle.relations.specs.Trees.{side, part}
 use Rattle.relations.proofs.Drawing.{single-growable}
@@ -20,5 +21,5 @@ side-spec =
     let ends = ends-low (s .args .t1) (s .args .e) (s .pre .0) (s .pre .1) in
     omega arith)
     (λ c κs. let d = c .before .before .before .pre .0 in
-    search (needs, single-growable, d .first-in))
+    search (needs, single-growable, d .first-in, d .second-in))
     (λ c. cc))
