@@ -1,7 +1,7 @@
 /* Fanchuki: the cheapest plan for a query of up to nine relations joined across up to eight sites.
  *
- * The file and plan layouts, and every refusal's number, are in docs/FORMAT.md. The function is proved: what this
- * comment says is its contract, for every query and every output. Link with libfanchuki.a (`rt staticlib fanchuki`).
+ * The file and plan layouts, and every refusal's number, are in docs/FORMAT.md. The function is proved: what it returns
+ * and what it writes is its contract, for every query and every output. Link with libfanchuki.a (`rt staticlib fanchuki`).
  */
 #ifndef FANCHUKI_H
 #define FANCHUKI_H
@@ -26,8 +26,11 @@ extern "C" {
  * refusal's number: 1 to 5 where the query file is refused, 23 where the output is shorter than the plan.
  *
  * Only the plan's bytes are written: the rest of the output stays as it was, and all of it does on 0 and on a refusal.
- * Nothing is kept between calls and nothing is allocated; calls on several threads do not meet. It needs some 64 KB of
- * stack. The two areas must not overlap. A length of 0 may come with any pointer, a null pointer too.
+ * Nothing is kept between calls and nothing is allocated; calls on several threads do not meet. The two areas must not
+ * overlap. A length of 0 may come with any pointer, a null pointer too.
+ *
+ * Give the thread 256 KB of stack: 174,792 bytes were measured at nine relations, the deepest plans there are, and
+ * 83,736 at two. The use of the stack is measured, not proved.
  */
 uint64_t fanchuki_plan(const uint8_t *query, size_t query_length, uint8_t *output, size_t output_length);
 
