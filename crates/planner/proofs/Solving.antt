@@ -10,12 +10,12 @@ use borrow.Author.Tests.{lt-ltb, le-ltb, le-leb}
 use Rattle.query.specs.declared.Query.{Query}
 use Rattle.query.specs.declared.Charge.{Charge}
 use Rattle.query.specs.Cost.{Cost, none, some}
-use Rattle.tables.specs.declared.solving.Solved.{Solved}
-use Rattle.tables.specs.declared.solving.Solved.the-variants.{Found, NoRoute}
+use Rattle.solver.specs.declared.solving.Solved.{Solved}
+use Rattle.solver.specs.declared.solving.Solved.the-variants.{Found, NoRoute}
 use Rattle.tables.specs.Tables.{cheapest, trials}
 use Rattle.tables.specs.Plan.{written, writtenSteps}
-use Rattle.tables.specs.Solved.{solvedAs, planAfter}
-use Rattle.tables.proofs.Stores.{step-bytes-long}
+use Rattle.solver.specs.Solved.{solvedAs, planAfter}
+use Rattle.tables.proofs.StepBytes.{step-bytes-long}
 use Rattle.tables.proofs.Upper.{written-law}
 use Rattle.tables.proofs.Optimum.{plus-combines}
 use Rattle.planner.specs.declared.Planner.{Planner}

@@ -14,7 +14,7 @@ use query::MOST_RATE;
 use query::Outcome;
 use query::Query;
 use rules::Checked;
-use tables::Solved;
+use solver::Solved;
 ghost use Prim.Native.Nat.{_<_};
 ghost use mathlib.Core.Path.{_≡_};
 ghost use mathlib.Core.Bool.{false};
@@ -155,7 +155,7 @@ pub fn solve(p: Planner, cells: &mut [u64]) -> AfterSolve
         };
     }
     let mut plan = [0u8; 69];
-    let s = tables::solve(p.query, cells, &mut plan);
+    let s = solver::solve(p.query, cells, &mut plan);
     match s {
         Solved::Found {
             cost,

@@ -29,7 +29,7 @@ use Rattle.tables.specs.Tables.{firstPart, otherPart, delivered}
 use Rattle.tables.specs.Plan.{joinStep, sendIfDue, bestSite, bestJoin, joinedSteps, deliveredSteps, stepsUpTo, writtenDelivered, writtenSteps, stepBytes, planBytes}
 use Rattle.tables.specs.Theorems.{WrittenLaw}
 use Rattle.tables.proofs.Tables.{ones-some, ones-most, ByJoin, BySite, joined-found, delivered-found}
-use Rattle.tables.proofs.Stores.{step-bytes-long}
+use Rattle.tables.proofs.StepBytes.{step-bytes-long}
 use Rattle.tables.proofs.Sends.{heldAt, Puts, Delivers, more-unindexed, due, delivers-one}
 
 module _ (combine : ℕ → ℕ → ℕ) (q : Query) where

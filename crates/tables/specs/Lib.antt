@@ -2,7 +2,5 @@ pub mod Least
 pub mod Tables
 pub mod Plan
 pub mod Theorems
-pub mod Code
-pub mod Solved
 pub mod Rows
 pub mod Vectors

@@ -1,11 +1,1 @@
-// The two tables of equations (8) and (9): the cheapest plan of every subquery at every site.
-mod cells;
-mod filling;
-mod joining;
-mod sending;
-mod solving;
-mod splitting;
-mod writing;
-
-pub use solving::Solved;
-pub use solving::solve;
+// The two tables, the written plan, and the proof that it is the cheapest: specs/ has them, proofs/ the proofs. The code is the crate `solver`.

@@ -1,0 +1,12 @@
+pub mod Figures
+pub mod Operands
+pub mod Turns
+pub mod Marks
+pub mod Carried
+pub mod Started
+pub mod Columns
+pub mod SetsFilled
+pub mod Stores
+pub mod PlanBytes
+pub mod WholePlan
+pub mod Answers

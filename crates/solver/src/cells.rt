@@ -1,0 +1,39 @@
+// The work area: where the cell of a subquery at a site stands, and which of two figures is kept.
+ghost use Prim.Native.Nat.{_<_};
+ghost use mathlib.Core.Path.{_≡_};
+ghost use Rattle.solver.specs.Code.{place, lesser, betterOf};
+
+// The figure that stands for none: no sum of figures and prices comes near it, and no sum with it is below it.
+pub(crate) const NONE: u64 = 1152921504606846976;
+
+// A figure and the place where it was found.
+pub struct Choice {
+    pub figure: u64,
+    pub at: usize,
+}
+
+// The place of a subquery's cell at a site.
+pub(crate) fn place(set: usize, site: usize) -> usize
+    requires { ⌜ (set < 512) × (site < 8) ⌝ }
+    ensures { λ r. ⌜ (r ≡ place set site) × (r < 4096) ⌝ }
+{
+    8 * set + site
+}
+
+// The lesser of a new figure and the kept one.
+pub(crate) fn lesser(new: u64, kept: u64) -> u64
+    ensures { λ r. ⌜ r ≡ lesser new kept ⌝ }
+{
+    if new < kept { new } else { kept }
+}
+
+// The new figure at i where it is less than the kept one, else the kept one: of equal figures the lower place stays.
+pub(crate) fn better(new: u64, i: usize, kept: Choice) -> Choice
+    ensures { λ r. ⌜ r ≡ betterOf new i kept ⌝ }
+{
+    if new < kept.figure {
+        Choice { figure: new, at: i }
+    } else {
+        kept
+    }
+}

@@ -1,0 +1,16 @@
+-- Laws of the bytes of steps.
+use Prim.Native.Nat.{ℕ, _*_}
+use native.Mathlib.Omega.{arith}
+use mathlib.Core.Path.{_≡_, refl, ap}
+use mathlib.Core.List.{List, [], _∷_, _++_}
+use lib.ListN.{length}
+use Rattle.rules.specs.Plans.{Step}
+use Rattle.tables.specs.Plan.{stepBytes}
+
+pub step-bytes-append : (xs ys : List Step) → stepBytes (xs ++ ys) ≡ stepBytes xs ++ stepBytes ys
+step-bytes-append [] ys = refl
+step-bytes-append (x ∷ xs) ys = ap (λ (l : List ℕ). x .kind ∷ (x .arg ∷ l)) (step-bytes-append xs ys)
+
+pub step-bytes-long : (xs : List Step) → length (stepBytes xs) ≡ 2 * length xs
+step-bytes-long [] = refl
+step-bytes-long (x ∷ xs) = omega (arith, step-bytes-long xs)
