@@ -63,7 +63,7 @@ static void make(query_file *f, const char *shape, int n, int s)
     int up[9] = {0};
     unsigned count = 0;
     f->length = 0;
-    seed = 1;
+    seed = 5; /* a tree that branches */
     for (int r = 1; r < n; r++)
         up[r] = parent(shape, r);
     put(f, 1, (uint64_t)s);
@@ -155,6 +155,34 @@ static void same(const query_file *f)
     }
 }
 
+/* Each n and s once a round, so that a slow spell of the machine is not one figure's alone. */
+static void growth(void)
+{
+    static query_file files[10][9];
+    static double least[10][9][WORKS];
+    for (int round = 0; round < 10; round++)
+        for (int n = 3; n <= 9; n++)
+            for (int s = 2; s <= 8; s++) {
+                double best[WORKS];
+                if (round == 0) {
+                    make(&files[n][s], "star", n, s);
+                    same(&files[n][s]);
+                }
+                measure(&files[n][s], best, 50);
+                for (int w = 0; w < WORKS; w++)
+                    if (round == 0 || best[w] < least[n][s][w])
+                        least[n][s][w] = best[w];
+            }
+    for (int n = 3; n <= 9; n++)
+        for (int s = 2; s <= 8; s++) {
+            plain_query q;
+            uint64_t cells[4096];
+            uint8_t plan[69];
+            plain_load(&q, files[n][s].bytes, files[n][s].length);
+            printf("%d %d %llu %.0f %.0f\n", n, s, (unsigned long long)plain_solve(&q, cells, plan).trials, least[n][s][PRODUCT_SOLVE], least[n][s][PLAIN_SOLVE]);
+        }
+}
+
 int main(int argc, char **argv)
 {
     static const char *const shapes[] = {"star", "chain", "tree"};
@@ -172,17 +200,7 @@ int main(int argc, char **argv)
         return 0;
     }
     if (argc == 2 && strcmp(argv[1], "growth") == 0) {
-        for (int n = 3; n <= 9; n++)
-            for (int s = 2; s <= 8; s++) {
-                plain_query q;
-                uint64_t cells[4096];
-                uint8_t plan[69];
-                make(&f, "star", n, s);
-                same(&f);
-                measure(&f, best, 200);
-                plain_load(&q, f.bytes, f.length);
-                printf("%d %d %llu %.0f %.0f\n", n, s, (unsigned long long)plain_solve(&q, cells, plan).trials, best[PRODUCT_SOLVE], best[PLAIN_SOLVE]);
-            }
+        growth();
         return 0;
     }
     printf("nine relations, eight sites    microseconds                ratio to plain C\n");

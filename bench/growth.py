@@ -1,4 +1,5 @@
-"""Draws docs/growth.svg and writes docs/GROWTH.md from the lines of `bench growth`: n s trials product-ns plain-ns."""
+"""Draws docs/growth.svg and writes docs/GROWTH.md from target/bench/shapes.txt, what `bench` printed, and the lines of
+`bench growth`: n s trials product-ns plain-ns."""
 import sys
 
 rows = [[int(x) for x in line.split()] for line in sys.stdin]
@@ -37,18 +38,39 @@ with open("docs/growth.svg", "w", encoding="utf8") as f:
     f.write("\n".join(svg) + "\n")
 
 table = {(r[0], r[1]): r for r in rows}
+
+
+def grid(cell):
+    lines = ["| n | " + " | ".join(f"s = {s}" for s in range(2, 9)) + " |", "|---|" + "---|" * 7]
+    for n in range(3, 10):
+        lines.append(f"| {n} | " + " | ".join(cell(table[n, s]) for s in range(2, 9)) + " |")
+    return lines
+
+
+with open("target/bench/shapes.txt", encoding="utf8") as f:
+    shapes = f.read().rstrip("\n")
 page = [
-    "# How solve grows",
+    "# How fast solve is, and how it grows",
     "",
-    "One solve of a star of n relations at s sites: trials, and the product's time over that of the plain C of bench/ at -O2, the best of ten timings in one run (`make bench ARGS=growth` writes this page and the plot anew). Times are of one machine; the ratios are what to compare.",
+    "`make bench ARGS=growth` writes this page and the plot anew. Each time is the best of ten or more in one run beside the plain C of bench/. Times are of one machine; the ratios are what to compare.",
+    "",
+    "## Beside plain C",
+    "",
+    "```",
+    shapes,
+    "```",
+    "",
+    "## Growth",
+    "",
+    "One solve of a star of n relations at s sites: trials, and microseconds.",
     "",
     "![microseconds a solve, by relations and sites](growth.svg)",
     "",
-    "| n | " + " | ".join(f"s = {s}" for s in range(2, 9)) + " |",
-    "|---|" + "---|" * 7,
+    *grid(lambda r: f"{r[2]}, {r[3] / 1000:.2f} µs"),
+    "",
+    "The same as a ratio to the plain C at -O2. A small query's time is mostly that of handing over the state by value, some 50 KB of copies, which the C does not do.",
+    "",
+    *grid(lambda r: f"{r[3] / r[4]:.2f}"),
 ]
-for n in range(3, 10):
-    cells = [f"{table[n, s][2]} trials, {table[n, s][3] / table[n, s][4]:.2f}" for s in range(2, 9)]
-    page.append(f"| {n} | " + " | ".join(cells) + " |")
 with open("docs/GROWTH.md", "w", encoding="utf8") as f:
     f.write("\n".join(page) + "\n")

@@ -9,7 +9,7 @@ mkdir -p "$out"
 gcc -O2 -Wall -Wextra -Ibench -c bench/plain.c -o "$out/plain.o"
 gcc -O3 -march=native -Ibench -Dplain_load=fast_load -Dplain_solve=fast_solve -Dplain_plan=fast_plan -c bench/plain.c -o "$out/fast.o"
 gcc -O2 -Wall -Wextra -Iinclude -Ibench bench/bench.c "$out/plain.o" "$out/fast.o" -Ltarget/staticlib -ltimed -lfanchuki -o "$out/bench"
-"$out/bench"
+"$out/bench" | tee "$out/shapes.txt"
 if command -v valgrind >/dev/null; then
     echo "instructions of 100 solves (callgrind)        product        C -O2"
     for shape in star chain tree; do

@@ -17,6 +17,9 @@ extern "C" {
 #define FANCHUKI_LONGEST_QUERY 1674
 #define FANCHUKI_LONGEST_PLAN 69
 
+/* What the call needs of the thread's stack, in bytes. */
+#define FANCHUKI_STACK 65536
+
 /* An answer from here on is a refusal: subtract this to have its number. */
 #define FANCHUKI_REFUSED 256
 
@@ -29,8 +32,8 @@ extern "C" {
  * Nothing is kept between calls and nothing is allocated; calls on several threads do not meet. The two areas must not
  * overlap. A length of 0 may come with any pointer, a null pointer too.
  *
- * Give the thread 256 KB of stack: 174,792 bytes were measured at nine relations, the deepest plans there are, and
- * 83,736 at two. The use of the stack is measured, not proved.
+ * The call takes less than FANCHUKI_STACK bytes of stack, the work area of 32 KB among them. That is measured, not proved:
+ * tests/c/stack.c holds it.
  */
 uint64_t fanchuki_plan(const uint8_t *query, size_t query_length, uint8_t *output, size_t output_length);
 

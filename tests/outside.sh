@@ -17,6 +17,10 @@ echo "== the C boundary"
 gcc -g -Wall -Wextra -Werror -fsanitize=address,undefined -fno-sanitize-recover=all -Iinclude tests/c/boundary.c -Ltarget/staticlib -lfanchuki -o "$out/boundary"
 "$out/boundary" examples/q.query
 
+echo "== the stack of the C call"
+gcc -O2 -Wall -Wextra -Werror -pthread -Iinclude tests/c/stack.c -Ltarget/staticlib -lfanchuki -o "$out/stack"
+"$out/stack" examples/q.query examples/chain-of-five.query examples/star-of-nine.query
+
 echo "== the reference's own tests"
 cargo test --quiet --release --offline --manifest-path reference/Cargo.toml >"$out/reference.txt" 2>&1 || { cat "$out/reference.txt"; exit 1; }
 grep -c '^test result: ok' "$out/reference.txt"

@@ -7,8 +7,8 @@ ghost use lib.ListN.{length};
 ghost use Rattle.query.specs.Prices.{read, reads};
 ghost use Rattle.query.specs.Indexed.{indexedIn};
 
-// A rate times a size.
-fn rated(rate: u64, size: Bytes) -> Charge
+// A rate times a size: all that a line or a join charges beyond its fixed amount.
+pub fn rated(rate: u64, size: Bytes) -> Charge
     requires { ⌜ (rate ≤ 1000) × (size .0 ≤ 3000000000) ⌝ }
     ensures { λ r. ⌜ (r .0 ≡ rate * size .0) × (r .0 ≤ 1000 * size .0) ⌝ }
 {

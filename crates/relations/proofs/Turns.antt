@@ -59,7 +59,7 @@ pub subquery-test : (l : List ℕ) (m S k : ℕ) → k ≡ wholeIn l S m → (lt
 unfolding subqueryBy
 subquery-test l m S k q = rw q
 
-ends-in : (J : Joins) (S e : ℕ) → eqb (bitAnd S (endsOf J e)) (endsOf J e) ≡ inside J S e
+pub ends-in : (J : Joins) (S e : ℕ) → eqb (bitAnd S (endsOf J e)) (endsOf J e) ≡ inside J S e
 unfolding inside endsOf
 ends-in J S e = go (eqb (bit S (first J e) + bit S (second J e)) 2) refl
   where

@@ -1,5 +1,6 @@
--- Over a query's own lists the site of a spared read, the price of a join and a carriage are the definitions'.
-use Prim.Native.Nat.{ℕ, _+_, _*_, _^_, _<_}
+-- Over a query's own lists the site of a spared read, the reading of a result and the price of a join are the definitions'.
+use Prim.Native.Nat.{ℕ, _+_, _*_, _^_, _≤_, _<_}
+use native.Mathlib.Nat.{le-trans, mul-add, mul-le-mul}
 use native.Mathlib.Omega.{arith}
 use mathlib.Core.Path.{_≡_, refl, sym, _∙_}
 use mathlib.Core.Bool.{Bool, true, false, _&&_}
@@ -10,12 +11,11 @@ use borrow.Author.Tests.{eqb-true, ne-eqb}
 use Rattle.relations.specs.Sets.{lowest}
 use Rattle.query.specs.declared.Query.{Query}
 use Rattle.query.specs.Choice.{pick}
-use Rattle.query.specs.Cost.{none, some}
-use Rattle.query.specs.Query.{Valid, relationsOf, home, index, joinFixed, joinRate, isOpen, lineFixed, lineRate, size}
-use Rattle.query.specs.Prices.{linePrice, carriage, reads, joinPrice, indexed}
+use Rattle.query.specs.Query.{Valid, relationsOf, home, index, joinFixed, joinRate, size}
+use Rattle.query.specs.Prices.{carriage, read, reads, joinPrice, indexed}
 use Rattle.relations.proofs.Counts.{one-some, lowest-same}
-use Rattle.query.proofs.Prices.{carriage-most}
-use Rattle.solver.specs.Code.{mark, sparedAt, carriageAt}
+use Rattle.query.proofs.Prices.{carriage-most, read-most}
+use Rattle.solver.specs.Code.{reading, sparedAt, baseAt}
 use Rattle.solver.proofs.Marks.{UpToOr, up-to-is}
 
 -- The lowest relation of a set of one is the query's.
@@ -47,30 +47,27 @@ spared-is q v S k low l = go (eqb (ones S) 1) refl
         (spared-flag (eqb (getD (q .relations .index) (lowest (relationsOf q) S) 0) 1) (getD (q .relations .home) (lowest (relationsOf q) S) 0) k l)
     go false e = ne-eqb 8 k (λ h. omega arith)
 
--- The price of joining P and R, which make up S, at site k.
-pub price-is : (q : Query) → Valid q → (P R S k : ℕ) → P + R ≡ S → P < 2 ^ relationsOf q → R < 2 ^ relationsOf q → k < 8 →
-    getD (q .sites .fixed) k 0
-    + getD (q .sites .rate) k 0
-    * (reads (eqb (sparedAt (q .relations .home) (q .relations .index) P) k) (getD (q .sizes) P 0)
-    (eqb (sparedAt (q .relations .home) (q .relations .index) R) k) (getD (q .sizes) R 0)
-    + getD (q .sizes) S 0)
-    ≡ joinPrice q k (indexed q P k) P (indexed q R k) R
-unfolding joinPrice joinFixed joinRate size
-price-is q v P R S k sum p r l = rw (spared-is q v P k p l, spared-is q v R k r l, ← sum)
+-- What the code works out for a read is what the definitions charge for it, and within the limits of a rate and a size.
+pub reading-is : (q : Query) → Valid q → (S t : ℕ) → S < 2 ^ relationsOf q → t < 8 →
+    getD (q .sites .rate) t 0 * read (eqb (sparedAt (q .relations .home) (q .relations .index) S) t) (getD (q .sizes) S 0) ≡ reading q S t
+unfolding reading joinRate size
+reading-is q v S t low l = rw (spared-is q v S t low l)
 
--- A carriage of S.
-pub carriage-is : (q : Query) (S k t : ℕ) →
-    carriageAt (q .lines .flag) (q .lines .fixed) (q .lines .rate) (getD (q .sizes) S 0) k t ≡ mark (carriage q S k t)
-unfolding carriageAt carriage isOpen linePrice lineFixed lineRate size
-carriage-is q S k t = go (eqb k t) (eqb (getD (q .lines .flag) (8 * k + t) 0) 1)
-  where
-    price : ℕ
-    price = getD (q .lines .fixed) (8 * k + t) 0 + getD (q .lines .rate) (8 * k + t) 0 * getD (q .sizes) S 0
+pub reading-most : (q : Query) → Valid q → (S t : ℕ) → reading q S t ≤ 1_000_000_000_000
+unfolding reading joinRate size
+reading-most q v S t = mul-le-mul (v .join-rate-most t) (le-trans (read-most (indexed q S t) (getD (q .sizes) S 0)) (v .sizes-most S))
 
-    go : (s o : Bool) → pick s 0 (pick o price (2 ^ 60)) ≡ mark (pick s (some 0) (pick o (some price) none))
-    go true o = refl
-    go false true = refl
-    go false false = refl
+-- The two readings and what the join charges whatever its parts make its price.
+shared-rate : (f r a b x : ℕ) → r * a + r * b + (f + r * x) ≡ f + r * (a + b + x)
+shared-rate f r a b x = omega (arith, mul-add r (a + b) x, mul-add r a b)
+
+pub price-is : (q : Query) (P R S k : ℕ) → P + R ≡ S →
+    reading q P k + reading q R k + baseAt (q .sites .fixed) (q .sites .rate) (getD (q .sizes) S 0) k ≡ joinPrice q k (indexed q P k) P (indexed q R k) R
+unfolding reading baseAt joinPrice reads joinFixed joinRate size
+price-is q P R S k sum =
+    rw (← sum)
+    (shared-rate (getD (q .sites .fixed) k 0) (getD (q .sites .rate) k 0) (read (indexed q P k) (getD (q .sizes) P 0))
+    (read (indexed q R k) (getD (q .sizes) R 0)) (getD (q .sizes) (P + R) 0))
 
 pub carriage-up-to : (q : Query) → Valid q → (S k t : ℕ) → UpToOr 1_000_001_000_000 (carriage q S k t)
 carriage-up-to q v S k t = up-to-is 1_000_001_000_000 (carriage q S k t) (carriage-most q v S k t)

@@ -1,15 +1,17 @@
 -- Laws of the cells and the figures that the code keeps: each way through a small function, and each turn of a loop, as a law over plain variables.
 use Prim.Native.Nat.{ℕ, zero, suc, _+_, _*_, _^_, _≤_, _<_}
-use native.Mathlib.Nat.{le-refl}
+use native.Mathlib.Nat.{le-refl, mul-le-mul}
 use native.Mathlib.Numerals.{add-one}
 use native.Mathlib.Omega.{arith}
 use mathlib.Core.Path.{_≡_, refl, sym, ap, _∙_}
 use mathlib.Core.Bool.{Bool, true, false}
+use mathlib.Core.List.{List}
+use lib.ListN.{getD}
 use lib.Dec.{ltb}
 use borrow.Author.Tests.{lt-ltb, le-ltb, ltb-true}
 use Rattle.query.specs.Choice.{pick}
 use Rattle.solver.specs.declared.cells.Choice.{Choice}
-use Rattle.solver.specs.Code.{place, noneMark, lesser, leastOf, placeOf, ChoiceOf, betterOf}
+use Rattle.solver.specs.Code.{place, noneMark, lesser, leastOf, placeOf, ChoiceOf, betterOf, baseAt}
 
 -- The place of a cell.
 pub place-is : (S t : ℕ) → S < 512 → t < 8 → (8 * S + t ≡ place S t) × (8 * S + t < 4096)
@@ -76,3 +78,8 @@ unfolding leastOf placeOf lesser
 choice-same g m kept c e =
     let u : ltb (g m) (leastOf g m) ≡ false = le-ltb (g m) (leastOf g m) (omega (arith, least-most g m)) in
     rw (add-one m) (record { figure-is = rw u (c .figure-is); at-is = rw u (c .at-is) })
+
+-- What a join charges whatever its parts is far below the figure of none.
+pub base-most : (fixed rate : List ℕ) (size k : ℕ) → getD fixed k 0 ≤ 1_000_000 → getD rate k 0 ≤ 1_000 → size ≤ 1_000_000_000 → baseAt fixed rate size k ≤ noneMark
+unfolding baseAt
+base-most fixed rate size k f r z = omega (arith, mul-le-mul r z)

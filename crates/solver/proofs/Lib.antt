@@ -1,12 +1,15 @@
 pub mod Figures
 pub mod Operands
 pub mod Turns
+pub mod Routes
+pub mod Wires
 pub mod Marks
 pub mod Carried
 pub mod Started
 pub mod Columns
 pub mod SetsFilled
 pub mod Stores
+pub mod Agree
 pub mod PlanBytes
 pub mod WholePlan
 pub mod Answers

@@ -10,7 +10,7 @@ use borrow.Author.Tests.{lt-ltb, le-ltb}
 use Rattle.query.specs.Choice.{pick}
 use Rattle.query.specs.Cost.{Cost, none, some, both, plus}
 use Rattle.tables.specs.Least.{Best, better, best, least}
-use Rattle.solver.specs.Code.{noneMark, mark, lesser, leastOf, placeOf}
+use Rattle.solver.specs.Code.{noneMark, mark, lesser, leastOf, placeOf, withReading}
 
 -- A cost that is at most n, or none; and a figure for such a cost, which for none need only be no less than that of none.
 abbrev pub UpToOr : ℕ → Cost → Type 0
@@ -59,12 +59,14 @@ kept-all n l f g zero h = record { figure-is = refl; at-is = refl; most = tt }
 kept-all n l f g (suc m) h =
     kept-more n m (f m) (best f m) (least f m) (leastOf g m) (g m) (placeOf g m) l refl (kept-all n l f g m (λ i k. h i (omega arith))) (h m (le-refl _))
 
--- Sums of figures: of two operands and a price, and of a cost and a carriage.
-pub shows-joined : (n p : ℕ) (a b : Cost) → UpToOr n a → UpToOr n b → Shows (n + n + p) (mark a + mark b + p) (plus (both _+_ a b) (some p))
-shows-joined n p none b h g = omega arith
-shows-joined n p (some c) none h g = omega arith
-shows-joined n p (some c) (some d) h g = (refl, omega arith)
+-- Two cells, each a cost with the reading of its result, and what a join charges besides: the two costs and the whole price.
+pub shows-joined : (n x y z p : ℕ) (a b : Cost) → x + y + z ≡ p → UpToOr n a → UpToOr n b →
+    Shows (n + n + p) (mark (plus a (some x)) + mark (plus b (some y)) + z) (plus (both _+_ a b) (some p))
+shows-joined n x y z p none b e h g = omega arith
+shows-joined n x y z p (some c) none e h g = omega arith
+shows-joined n x y z p (some c) (some d) e h g = (omega arith, omega arith)
 
+-- A cost and a carriage.
 pub shows-sent : (n m : ℕ) (a b : Cost) → UpToOr n a → UpToOr m b → Shows (n + m) (mark a + mark b) (plus a b)
 shows-sent n m none b h g = omega arith
 shows-sent n m (some c) none h g = omega arith
@@ -73,6 +75,16 @@ shows-sent n m (some c) (some d) h g = (refl, omega arith)
 pub shows-more : (n m x : ℕ) (c : Cost) → n ≤ m → Shows n x c → Shows m x c
 shows-more n m x none l h = h
 shows-more n m x (some c) l (a, h) = (a, omega arith)
+
+-- A cost with the reading of its result, and its figure.
+pub up-to-read : (n m x : ℕ) (c : Cost) → UpToOr n c → x ≤ m → UpToOr (n + m) (plus c (some x))
+up-to-read n m x none h l = tt
+up-to-read n m x (some c) h l = omega arith
+
+pub read-figure : (n x : ℕ) (c : Cost) → n < noneMark → UpToOr n c → withReading (mark c) x ≡ mark (plus c (some x))
+unfolding withReading
+read-figure n x none l h = refl
+read-figure n x (some c) l h = rw (lt-ltb c noneMark (omega arith))
 
 pub up-to-is : (n : ℕ) (c : Cost) → ((v : ℕ) → c ≡ some v → v ≤ n) → UpToOr n c
 up-to-is n none h = tt

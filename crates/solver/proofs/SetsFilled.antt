@@ -16,21 +16,21 @@ use mir.Val.{Fits}
 use Rattle.relations.specs.declared.Joins.{Joins}
 use Rattle.relations.specs.Sets.{all}
 use Rattle.relations.specs.Trees.{isSubquery, Subquery, Tree}
-use Rattle.relations.specs.Code.{Drawn, EndsOf, subqueryBy, SidesOf}
+use Rattle.relations.specs.Code.{Drawn, EndsOf, subqueryBy, Row}
 use Rattle.relations.proofs.Turns.{tested}
 use Rattle.relations.proofs.Counts.{ones-zero}
 use Rattle.relations.proofs.Connected.{subquery-range}
 use Rattle.relations.proofs.Leads.{never-both}
 use Rattle.query.specs.declared.Query.{Query}
 use Rattle.query.specs.Choice.{pick}
-use Rattle.query.specs.Query.{Valid, relationsOf, sitesOf}
-use Rattle.tables.specs.Tables.{delivered, joinsBelow}
-use Rattle.relations.specs.Code.{Row}
-use Rattle.solver.specs.Code.{place, mark, deliveredAt, Joinable, HomeLow, startAt, Marked, Priced, Stored, Filled, FilledFrom}
+use Rattle.query.specs.Query.{Valid, relationsOf, sitesOf, UpTo}
+use Rattle.tables.specs.Tables.{joinsBelow}
+use Rattle.solver.specs.Code.{place, mark, cellOf, sparedAt, lent, baseAt, Joinable, HomeLow, startAt, Marked, Priced, heldAt, Stored, Filled, FilledFrom, MasksOf, WiresOf}
 use Rattle.tables.proofs.Tables.{ones-some}
 use Rattle.solver.proofs.Figures.{place-low, place-apart}
 use Rattle.solver.proofs.Started.{startCost}
-use Rattle.solver.proofs.Columns.{lentBy, set-low, joinable, home-low, row-started, row-marked, delivered-figure}
+use Rattle.solver.proofs.Wires.{wires-priced}
+use Rattle.solver.proofs.Columns.{set-low, joinable, home-low, row-started, row-marked, cell-held}
 
 -- What filling has reached when set S is next.
 pub record Going (q : Query) (old work : List ℕ) (S tried : ℕ) : Type 0 where
@@ -39,12 +39,11 @@ pub record Going (q : Query) (old work : List ℕ) (S tried : ℕ) : Type 0 wher
   pub later : drop 4096 work ≡ drop 4096 old
   pub joins : tried ≡ joinsBelow (q .joins) (relationsOf q) S
 
--- The end of the sets, and that the sets and the sites are few.
+-- The end of the sets, and that the sets are few.
 pub record EndOf (q : Query) (end : ℕ) : Type 0 where
   pub is : end ≡ 2 ^ relationsOf q
   pub some : 1 ≤ end
   pub low : end ≤ 512
-  pub sites-few : sitesOf q ≤ 8
 
 pub ones-fits : (q : Query) (S e : ℕ) → S < e → EndOf q e → Fits w64 (ones S)
 ones-fits q S e h end =
@@ -103,10 +102,14 @@ module _ (q : Query) (v : Valid q) where
   pub end-here : (e : ℕ) → e ≡ 2 ^ (q .joins .count + 1) → EndOf q e
   end-here e h =
       let is : e ≡ 2 ^ relationsOf q = h ∙ ap (λ (n : ℕ). 2 ^ n) (v .tree .joins) in
-      record { is = is; some = omega (arith, pow-pos (relationsOf q)); low = omega (arith, pow-mono {i = relationsOf q} {j = 9} (v .relations-most)); sites-few = v .sites-most }
+      record { is = is; some = omega (arith, pow-pos (relationsOf q)); low = omega (arith, pow-mono {i = relationsOf q} {j = 9} (v .relations-most)) }
 
-  pub priced-here : (S x : ℕ) → x ≡ getD (q .sizes) S 0 → Priced (q .lines .fixed) (q .lines .rate) x
-  priced-here S x e = record { fixed-most = v .line-fixed-most; rate-most = v .line-rate-most; size-most = rw e (v .sizes-most S) }
+  -- What the charges of a join, a line and a read ask, of a size that is a set's.
+  pub charges-here : (S x : ℕ) → x ≡ getD (q .sizes) S 0 → UpTo 1_000_000 (q .sites .fixed) × (UpTo 1_000 (q .sites .rate) × (x ≤ 1_000_000_000))
+  charges-here S x e = (v .join-fixed-most, (v .join-rate-most, rw e (v .sizes-most S)))
+
+  pub priced-here : (fixed rate : List ℕ) → WiresOf q fixed rate → (S x : ℕ) → x ≡ getD (q .sizes) S 0 → Priced fixed rate x × UpTo 1_000 (q .sites .rate)
+  priced-here fixed rate wires S x e = (rw e (wires-priced q fixed rate wires v S), v .join-rate-most)
 
   -- Nothing is below set 1.
   pub going-start : (work : List ℕ) → 4096 ≤ length work → Going q work work 1 0
@@ -135,13 +138,13 @@ module _ (q : Query) (v : Valid q) where
           joins = omega (arith, g .joins, joins-next (q .joins) (relationsOf q) S false out);
         }
       where
-        each : (T t : ℕ) → (T ≡ S) ⊎ (T < S) → Subquery (q .joins) (relationsOf q) T → t < sitesOf q → getD work (place T t) 0 ≡ mark (delivered _+_ q T t)
+        each : (T t : ℕ) → (T ≡ S) ⊎ (T < S) → Subquery (q .joins) (relationsOf q) T → t < sitesOf q → getD work (place T t) 0 ≡ cellOf q T t
         each T t (inl e) s m = absurd (never-both _ (subst (λ (X : ℕ). isSubquery (q .joins) (relationsOf q) X ≡ true) e s) (not-here S d test fails))
         each T t (inr h) s m = g .cells .each T t h s m
 
     -- A subquery, with its cells stored.
     pub going-on : (new : List ℕ) (f : ℕ → ℕ) (r : ℕ) → d ≡ true → Stored work new S (sitesOf q) f →
-        ((t : ℕ) → t < sitesOf q → f t ≡ mark (delivered _+_ q S t)) → r ≡ tried + (ones S - 1) → Going q old new (S + 1) r
+        ((t : ℕ) → t < sitesOf q → f t ≡ cellOf q S t) → r ≡ tried + (ones S - 1) → Going q old new (S + 1) r
     going-on new f r held stored is sum =
         let s = subquery-here S d test held in
         let low : S < 512 = set-low q v S (subquery-range (q .joins) (relationsOf q) S s .1) in
@@ -158,33 +161,34 @@ module _ (q : Query) (v : Valid q) where
           joins = omega (arith, sum, g .joins, joins-next (q .joins) (relationsOf q) S true s);
         }
       where
-        each : (T t : ℕ) → (T ≡ S) ⊎ (T < S) → Subquery (q .joins) (relationsOf q) T → t < sitesOf q → getD new (place T t) 0 ≡ mark (delivered _+_ q T t)
-        each T t (inl e) p m = subst (λ (X : ℕ). getD new (place X t) 0 ≡ mark (delivered _+_ q X t)) (sym e) (stored .each t m ∙ is t m)
+        each : (T t : ℕ) → (T ≡ S) ⊎ (T < S) → Subquery (q .joins) (relationsOf q) T → t < sitesOf q → getD new (place T t) 0 ≡ cellOf q T t
+        each T t (inl e) p m = subst (λ (X : ℕ). getD new (place X t) 0 ≡ cellOf q X t) (sym e) (stored .each t m ∙ is t m)
         each T t (inr h) p m =
             stored .other (place T t)
             (λ u k e. omega (arith, place-apart T S t u (omega (arith, v .sites-most)) (omega (arith, v .sites-most)) e .0)) ∙ g .cells .each T t h p m
 
-    module _ (around : List ℕ) (sides : SidesOf (q .joins) around (q .joins .count)) (held : d ≡ true) where
+    module _ (ends sides : List ℕ) (masks : MasksOf q ends sides) (held : d ≡ true) where
       -- What its row asks.
-      pub startable-here : Joinable (lentBy q work around) S (q .joins .count) (sitesOf q) × HomeLow (q .relations .home) S
+      pub startable-here : Joinable (lent work ends sides) S (q .joins .count) (sitesOf q) × HomeLow (q .relations .home) S
       startable-here =
           let s = subquery-here S d test held in
-          (joinable q v work around sides S (g .cells) s, home-low q v S (subquery-range (q .joins) (relationsOf q) S s .1))
+          (joinable q v work ends sides masks S (g .cells) s, home-low q v S (subquery-range (q .joins) (relationsOf q) S s .1))
 
       -- Its cells from its row.
-      module _ (row : List ℕ) (r : Row row (startAt (lentBy q work around) (q .sites .may) S (q .joins .count)) (sitesOf q)) where
+      module _ (x : ℕ) (size-is : x ≡ getD (q .sizes) S 0) (row : List ℕ)
+          (r : Row row (startAt (lent work ends sides) (q .relations .home) (q .sites .may) (baseAt (q .sites .fixed) (q .sites .rate) x) S (q .joins .count)) (sitesOf q))
+          (fixed rate : List ℕ) (wires : WiresOf q fixed rate) where
         row-here : (k : ℕ) → k < sitesOf q → getD row k 0 ≡ mark (startCost q S k)
-        row-here = row-started q v work around sides S (g .cells) (subquery-here S d test held) row r
+        row-here k m = r .each k m ∙ rw size-is (row-started q v work ends sides masks S (g .cells) (subquery-here S d test held) k m)
 
         pub marked-here : Marked row (sitesOf q)
-        marked-here = row-marked q v S (subquery-here S d test held) row row-here
+        marked-here = row-marked q v S (subquery-here S d test held) fixed rate wires (λ (k : ℕ). getD row k 0) row-here row (λ k m. refl)
 
-        pub going-stored : (new : List ℕ) (x : ℕ) → x ≡ getD (q .sizes) S 0 →
-            Stored work new S (sitesOf q) (deliveredAt row (q .lines .flag) (q .lines .fixed) (q .lines .rate) x (sitesOf q)) →
-            Going q old new (S + 1) (tried + (ones S - 1))
-        going-stored new x size-is stored =
-            going-on new (deliveredAt row (q .lines .flag) (q .lines .fixed) (q .lines .rate) x (sitesOf q)) (tried + (ones S - 1)) held stored
-            (λ t m. rw size-is (delivered-figure q v S (subquery-here S d test held) row row-here t)) refl
+        pub going-stored : (new : List ℕ) (spared : ℕ) → spared ≡ sparedAt (q .relations .home) (q .relations .index) S →
+            Stored work new S (sitesOf q) (heldAt row fixed rate (q .sites .rate) spared x (sitesOf q)) → Going q old new (S + 1) (tried + (ones S - 1))
+        going-stored new spared spared-is stored =
+            going-on new (heldAt row fixed rate (q .sites .rate) spared x (sitesOf q)) (tried + (ones S - 1)) held stored
+            (λ t m. rw (spared-is, size-is) (cell-held q v S (subquery-here S d test held) fixed rate wires row row-here t (omega (arith, v .sites-most)))) refl
 
     -- A subquery has at least one relation, and the joins counted so far are few.
     pub some-relation : d ≡ true → 1 ≤ ones S

@@ -1,25 +1,43 @@
 -- Each turn of a loop over sites or joins keeps what the loop has shown so far, and after the last turn it is what the function promises.
-use Prim.Native.Nat.{ℕ, _+_, _^_, _≤_, _<_}
+use Prim.Native.Nat.{ℕ, _+_, _-_, _*_, _^_, _≤_, _<_}
 use native.Mathlib.Numerals.{add-one}
 use native.Mathlib.Nat.{le-antisymm}
 use native.Mathlib.Omega.{arith}
-use mathlib.Core.Path.{_≡_, refl, ap, _∙_}
+use mathlib.Core.Path.{_≡_, refl, sym, _∙_}
 use mathlib.Core.Bool.{Bool, true, false}
 use mathlib.Core.List.{List}
 use lib.ListN.{length, getD, set, length-set, replicate, getD-replicate}
+use lib.Bits.{bitAnd}
 use lib.Count.{ones, trailingZeros}
 use lib.Seq.{getD-set-same, getD-set-other}
 use lib.Dec.{eqb}
 use borrow.Author.Tests.{eq-eqb, ne-eqb, eqb-true, eqb-false}
-use borrow.Author.Count.{below-more}
-use Rattle.relations.specs.Sets.{bit}
-use Rattle.relations.proofs.Turns.{set-next}
-use Rattle.query.specs.Choice.{pick}
-use Rattle.solver.specs.declared.cells.Choice.{Choice}
-use Rattle.solver.specs.declared.splitting.Split.{Split}
 use Rattle.relations.specs.Code.{Row}
-use Rattle.solver.specs.Code.{place, noneMark, lesser, leastOf, placeOf, ChoiceOf, betterOf, trialOf, splitBy, Lent, joinIn, joinTrial, Triable, Joinable, Tried, joinedBelow, permittedAt, bareAt, startAt, carriageAt, siteTrial, deliveredAt, Stored}
-use Rattle.solver.proofs.Figures.{place-apart, lesser-kept, least-most, choice-more, choice-same}
+use Rattle.relations.proofs.Turns.{set-next, row-done}
+use Rattle.query.specs.Choice.{pick}
+use Rattle.query.specs.Query.{UpTo}
+use Rattle.solver.specs.declared.cells.Choice.{Choice}
+use Rattle.solver.specs.Code.{place, noneMark, lesser, leastOf, ChoiceOf, betterOf, Lent, joinIn, partBy, baseAt, trialOf, Triable, joinTrial, Tried, joinedBelow, permittedAt, bareAt, startAt, Marked}
+use Rattle.solver.proofs.Figures.{lesser-kept, least-most, base-most, choice-more, choice-same}
+
+-- What a trial comes to, and that it is far below 2^64.
+module _ (work : List ℕ) (base P R k a b : ℕ) where
+  pub trial-is : a ≡ place P k → b ≡ place R k → getD work a 0 + getD work b 0 + base ≡ trialOf work base P R k
+  unfolding trialOf
+  trial-is ea eb = rw (ea, eb)
+
+  pub trial-fits : a ≡ place P k → b ≡ place R k → Triable work P R k → base ≤ noneMark → getD work a 0 + getD work b 0 + base ≤ 3 * noneMark
+  trial-fits ea eb t l = rw (ea, eb) (omega (arith, t .first-cell, t .second-cell))
+
+-- What a join charges whatever its parts, at each site.
+pub base-at : (fixed rate : List ℕ) (size k v : ℕ) → v ≡ getD fixed k 0 + getD rate k 0 * size → v ≡ baseAt fixed rate size k
+unfolding baseAt
+base-at fixed rate size k v e = e
+
+pub bases-done : (fixed rate l : List ℕ) (size k s : ℕ) → UpTo 1_000_000 fixed → UpTo 1_000 rate → size ≤ 1_000_000_000 →
+    Row l (baseAt fixed rate size) k → s ≤ k → s ≤ 8 → Row l (baseAt fixed rate size) s × Marked l s
+bases-done fixed rate l size k s f r z row h few =
+    (row-done l (baseAt fixed rate size) k s row h, record { few = few; each = λ i g. rw (row .each i (omega arith)) (base-most fixed rate size i (f i) (r i) z) })
 
 -- A row that is tried against new figures from its first site on.
 pub record TriedTo (old new : List ℕ) (g : ℕ → ℕ) (k : ℕ) : Type 0 where
@@ -41,102 +59,54 @@ tried-more old new g k s t v r l m e f =
 pub tried-done : (old new : List ℕ) (g : ℕ → ℕ) (k s : ℕ) → TriedTo old new g k → s ≤ k → Tried old new g s
 tried-done old new g k s r l = record { eight = r .eight; each = λ i h. r .below i (omega arith) }
 
--- The sites where a subquery may be joined, one after the other.
-pub site-more : (row flag fixed rate : List ℕ) (size t k r : ℕ) (kept made : Choice) → ChoiceOf (siteTrial row flag fixed rate size t) k kept →
-    r ≡ carriageAt flag fixed rate size k t → made ≡ betterOf (getD row k 0 + r) k kept → ChoiceOf (siteTrial row flag fixed rate size t) (k + 1) made
-unfolding siteTrial
-site-more row flag fixed rate size t k r kept made c e b =
-    choice-more (siteTrial row flag fixed rate size t) k (getD row k 0 + r) kept made c (ap (λ (x : ℕ). getD row k 0 + x) e) b
-
-pub choice-done : (g : ℕ → ℕ) (m s : ℕ) (c : Choice) → ChoiceOf g m c → m ≤ s → s ≤ m → ChoiceOf g s c
-choice-done g m s c h l k = rw (le-antisymm l k) at h
-
-pub choice-at : (g : ℕ → ℕ) (m s : ℕ) (c : Choice) → ChoiceOf g m c → m ≤ s → s ≤ m → c .at ≡ placeOf g s
-choice-at g m s c h l k = choice-done g m s c h l k .at-is
-
--- The cells of a subquery, one after the other.
-pub stored-none : (old : List ℕ) (S : ℕ) (g : ℕ → ℕ) → Stored old old S 0 g
-stored-none old S g = record { long = refl; each = λ t l. absurd (omega arith); other = λ i h. refl }
-
-pub stored-more : (old new : List ℕ) (S t s at v : ℕ) (g : ℕ → ℕ) → Stored old new S t g → t < s → s ≤ 8 → at ≡ place S t → at < 4096 → 4096 ≤ length old → v ≡ g t →
-    Stored old (set new at v) S (t + 1) g
-stored-more old new S t m at v g s l eight e h room here =
-    let low : t < 8 = omega arith in
-    let in-new : at < length new = omega (arith, s .long) in
-    record {
-      long = length-set new at v ∙ s .long;
-      each =
-          below-more (λ u. getD (set new at v) (place S u) 0 ≡ g u) t
-          (λ u l. getD-set-other new at (place S u) v 0 (λ q. omega (arith, place-apart S S u t (omega arith) low (q ∙ e) .1)) ∙ s .each u l)
-          (rw (← e) (getD-set-same new at v 0 in-new) ∙ here);
-      other = λ i h. getD-set-other new at i v 0 (λ q. h t (omega arith) (q ∙ e)) ∙ s .other i (λ u l. h u (omega arith));
-    }
-
-pub stored-done : (old new : List ℕ) (S t s : ℕ) (g : ℕ → ℕ) → Stored old new S t g → t ≤ s → s ≤ t → Stored old new S s g
-stored-done old new S t s g r l k = rw (le-antisymm l k) at r
-
--- The cell of a subquery at t from its row.
-pub delivered-at : (row flag fixed rate : List ℕ) (size s t : ℕ) (c : Choice) → ChoiceOf (siteTrial row flag fixed rate size t) s c →
-    c .figure ≡ deliveredAt row flag fixed rate size s t
-unfolding deliveredAt
-delivered-at row flag fixed rate size s t c h = h .figure-is
-
 pub permitted-at : (may row : List ℕ) (k v : ℕ) → v ≡ pick (eqb (getD may k 0) 1) (getD row k 0) noneMark → v ≡ permittedAt may row k
 unfolding permittedAt
 permitted-at may row k v e = e
 
 -- The joins in a set, one after the other.
 module _ (l : Lent) (S : ℕ) where
-  pub join-in : (e a b : ℕ) → a ≡ bit S (getD (l .first) e 0) → b ≡ bit S (getD (l .second) e 0) → a + b ≡ 2 → joinIn l S e ≡ true
+  pub join-is : (e : ℕ) (d t : Bool) → d ≡ eqb (bitAnd S (getD (l .ends) e 0)) (getD (l .ends) e 0) → d ≡ t → joinIn l S e ≡ t
   unfolding joinIn
-  join-in e a b x y h = rw (← x, ← y) (eq-eqb (a + b) 2 h)
+  join-is e d t is h = sym is ∙ h
 
-  pub join-out : (e a b : ℕ) → a ≡ bit S (getD (l .first) e 0) → b ≡ bit S (getD (l .second) e 0) → (a + b ≡ 2 → ⊥) → joinIn l S e ≡ false
-  unfolding joinIn
-  join-out e a b x y h = rw (← x, ← y) (ne-eqb (a + b) 2 h)
-
-  pub trial-in : (k e : ℕ) → joinIn l S e ≡ true → trialOf (l .work) (l .fixed) (l .rate) (splitBy l S e) k ≡ joinTrial l S k e
+  pub trial-in : (base k e : ℕ) → joinIn l S e ≡ true → trialOf (l .work) base (partBy l S e) (S - partBy l S e) k ≡ joinTrial l base S k e
   unfolding joinTrial
-  trial-in k e h = rw h
+  trial-in base k e h = rw h
 
-  pub trial-out : (k e : ℕ) → joinIn l S e ≡ false → joinTrial l S k e ≡ noneMark
+  pub trial-out : (base k e : ℕ) → joinIn l S e ≡ false → joinTrial l base S k e ≡ noneMark
   unfolding joinTrial
-  trial-out k e h = rw h
+  trial-out base k e h = rw h
 
-  pub join-triable : (e m s : ℕ) (x : Split) → Joinable l S m s → e < m → joinIn l S e ≡ true → x ≡ splitBy l S e →
-      (k : ℕ) → k < s → Triable (l .work) (l .fixed) (l .rate) x k
-  join-triable e m s x j h within is k g = rw is (j .each e k h within g)
-
-  pub joined-none : (s : ℕ) → s ≤ 8 → Row (replicate 8 (2 ^ 60)) (joinedBelow l S 0) s
+  pub joined-none : (base : ℕ → ℕ) (s : ℕ) → s ≤ 8 → Row (replicate 8 (2 ^ 60)) (joinedBelow l base S 0) s
   unfolding joinedBelow leastOf
-  joined-none s h = record { eight = refl; each = λ k g. getD-replicate 8 k noneMark 0 (omega arith) }
+  joined-none base s h = record { eight = refl; each = λ k g. getD-replicate 8 k noneMark 0 (omega arith) }
 
-  pub joined-more : (e s : ℕ) (row new : List ℕ) (x : Split) → Row row (joinedBelow l S e) s → joinIn l S e ≡ true → x ≡ splitBy l S e →
-      Tried row new (trialOf (l .work) (l .fixed) (l .rate) x) s → Row new (joinedBelow l S (e + 1)) s
+  pub joined-more : (base : ℕ → ℕ) (e s : ℕ) (row new : List ℕ) → Row row (joinedBelow l base S e) s → joinIn l S e ≡ true →
+      Tried row new (λ (k : ℕ). trialOf (l .work) (base k) (partBy l S e) (S - partBy l S e) k) s → Row new (joinedBelow l base S (e + 1)) s
   unfolding joinedBelow leastOf
-  joined-more e s row new x r within is t =
-      rw (add-one e)
-      (record { eight = t .eight; each = λ k h. t .each k h ∙ rw (is, r .each k h, trial-in k e within) })
+  joined-more base e s row new r within t =
+      rw (add-one e) (record { eight = t .eight; each = λ k h. t .each k h ∙ rw (r .each k h, trial-in (base k) k e within) })
 
-  pub row-same : (e m s : ℕ) (row : List ℕ) → Row row (joinedBelow l S e) s → e ≤ m → m ≤ e → Row row (joinedBelow l S m) s
-  row-same e m s row r h g = rw (le-antisymm h g) at r
-
-  pub joined-same : (e s : ℕ) (row : List ℕ) → Row row (joinedBelow l S e) s → joinIn l S e ≡ false → Row row (joinedBelow l S (e + 1)) s
+  pub joined-same : (base : ℕ → ℕ) (e s : ℕ) (row : List ℕ) → Row row (joinedBelow l base S e) s → joinIn l S e ≡ false → Row row (joinedBelow l base S (e + 1)) s
   unfolding joinedBelow leastOf
-  joined-same e s row r out =
+  joined-same base e s row r out =
       rw (add-one e)
       (record {
         eight = r .eight;
-        each = λ k h. r .each k h ∙ lesser-kept (joinTrial l S k e) (leastOf (joinTrial l S k) e) (omega (arith, trial-out k e out, least-most (joinTrial l S k) e));
+        each = λ k h. r .each k h
+            ∙ lesser-kept (joinTrial l (base k) S k e) (leastOf (joinTrial l (base k) S k) e) (omega (arith, trial-out (base k) k e out, least-most (joinTrial l (base k) S k) e));
       })
 
-  -- The joins at one site.
-  pub join-better : (k e r : ℕ) (kept made : Choice) (x : Split) → ChoiceOf (joinTrial l S k) e kept → joinIn l S e ≡ true → x ≡ splitBy l S e →
-      r ≡ trialOf (l .work) (l .fixed) (l .rate) x k → made ≡ betterOf r e kept → ChoiceOf (joinTrial l S k) (e + 1) made
-  join-better k e r kept made x c within is t b = choice-more (joinTrial l S k) e r kept made c (t ∙ rw is (trial-in k e within)) b
+  pub row-same : (base : ℕ → ℕ) (e m s : ℕ) (row : List ℕ) → Row row (joinedBelow l base S e) s → e ≤ m → m ≤ e → Row row (joinedBelow l base S m) s
+  row-same base e m s row r h g = rw (le-antisymm h g) at r
 
-  pub join-worse : (k e : ℕ) (kept : Choice) → ChoiceOf (joinTrial l S k) e kept → joinIn l S e ≡ false → ChoiceOf (joinTrial l S k) (e + 1) kept
-  join-worse k e kept c out = choice-same (joinTrial l S k) e kept c (trial-out k e out)
+  -- The joins at one site.
+  pub join-better : (base k e r : ℕ) (kept made : Choice) → ChoiceOf (joinTrial l base S k) e kept → joinIn l S e ≡ true →
+      r ≡ trialOf (l .work) base (partBy l S e) (S - partBy l S e) k → made ≡ betterOf r e kept → ChoiceOf (joinTrial l base S k) (e + 1) made
+  join-better base k e r kept made c within t b = choice-more (joinTrial l base S k) e r kept made c (t ∙ trial-in base k e within) b
+
+  pub join-worse : (base k e : ℕ) (kept : Choice) → ChoiceOf (joinTrial l base S k) e kept → joinIn l S e ≡ false → ChoiceOf (joinTrial l base S k) (e + 1) kept
+  join-worse base k e kept c out = choice-same (joinTrial l base S k) e kept c (trial-out base k e out)
 
 -- The row of one relation, and the row that a subquery starts from.
 pub bare-row : (h : ℕ) → h < 8 → Row (set (replicate 8 (2 ^ 60)) h 0) (bareAt h) 8
@@ -147,11 +117,13 @@ bare-row h low = record { eight = length-set (replicate 8 noneMark) h 0; each = 
     go k g true e = rw (eqb-true k h e) (getD-set-same (replicate 8 noneMark) h 0 0 low)
     go k g false e = getD-set-other (replicate 8 noneMark) h k 0 0 (eqb-false k h e) ∙ getD-replicate 8 k noneMark 0 g
 
-module _ (l : Lent) (may : List ℕ) (S m s : ℕ) where
-  pub start-bare : (h : ℕ) (row : List ℕ) → s ≤ 8 → ones S ≡ 1 → h ≡ getD (l .home) (trailingZeros 64 S) 0 → Row row (bareAt h) 8 → Row row (startAt l may S m) s
+module _ (l : Lent) (homes may : List ℕ) (base : ℕ → ℕ) (S m s : ℕ) where
+  pub start-bare : (h : ℕ) (row : List ℕ) → s ≤ 8 → ones S ≡ 1 → h ≡ getD homes (trailingZeros 64 S) 0 → Row row (bareAt h) 8 → Row row (startAt l homes may base S m) s
   unfolding startAt
   start-bare h row few one is r = record { eight = r .eight; each = λ k g. r .each k (omega arith) ∙ rw (eq-eqb (ones S) 1 one, is) }
 
-  pub start-joined : (tried row : List ℕ) → (ones S ≡ 1 → ⊥) → Row tried (joinedBelow l S m) s → Row row (permittedAt may tried) s → Row row (startAt l may S m) s
-  unfolding startAt permittedAt
-  start-joined tried row more t r = record { eight = r .eight; each = λ k g. r .each k g ∙ rw (ne-eqb (ones S) 1 more, t .each k g) }
+  pub start-joined : (charges tried row : List ℕ) → (ones S ≡ 1 → ⊥) → Row charges base s → Row tried (joinedBelow l (λ (k : ℕ). getD charges k 0) S m) s →
+      Row row (permittedAt may tried) s → Row row (startAt l homes may base S m) s
+  unfolding startAt permittedAt joinedBelow
+  start-joined charges tried row more b t r =
+      record { eight = r .eight; each = λ k g. r .each k g ∙ rw (ne-eqb (ones S) 1 more, t .each k g, b .each k g) }

@@ -1,18 +1,17 @@
 -- The whole plan: all relations at the query site, at most 34 steps, so 69 bytes are room enough; its count goes before its steps.
 use Prim.Native.Nat.{ℕ, _+_, _-_, _/_, _^_, _≤_}
 use native.Mathlib.Omega.{arith}
-use mathlib.Core.Path.{_≡_, sym, subst}
+use mathlib.Core.Path.{_≡_, refl, sym, subst}
 use mathlib.Core.List.{List, _++_}
 use lib.ListN.{length, drop, set}
 use Rattle.relations.specs.Sets.{all}
-use Rattle.relations.specs.Code.{SidesOf}
 use Rattle.relations.proofs.Subqueries.{subqueries-law}
 use Rattle.query.specs.declared.Query.{Query}
 use Rattle.query.specs.Query.{Valid, relationsOf}
 use Rattle.query.specs.Cost.{some}
 use Rattle.tables.specs.Tables.{cheapest}
 use Rattle.tables.specs.Plan.{writtenDelivered, writtenSteps, stepBytes, written}
-use Rattle.solver.specs.Code.{Filled, Wrote, ToDeliver}
+use Rattle.solver.specs.Code.{MasksOf, WiresOf, Filled, Wrote, listsOf, ToDeliver}
 use Rattle.tables.proofs.Upper.{written-law}
 use Rattle.tables.proofs.Optimum.{plus-combines}
 use Rattle.solver.proofs.SetsFilled.{all-here}
@@ -27,12 +26,19 @@ module _ (q : Query) (v : Valid q) (c : ℕ) (number : cheapest _+_ q ≡ some c
   pub written-most : length (written _+_ q) ≤ 69
   written-most = omega (arith, step-bytes-long (writtenSteps _+_ q), few-steps)
 
-  pub plan-start : (around work : List ℕ) (S : ℕ) → SidesOf (q .joins) around (q .joins .count) → Filled q work (2 ^ relationsOf q) → S ≡ all (q .joins .count + 1) →
-      ToDeliver q around work S (q .target)
-  plan-start around work S sides filled e =
-      subst (λ (X : ℕ). ToDeliver q around work X (q .target)) (sym (all-here q v S e))
+  pub plan-start : (ends sides fixed rate work : List ℕ) (S : ℕ) → MasksOf q ends sides → WiresOf q fixed rate → Filled q work (2 ^ relationsOf q) →
+      S ≡ all (q .joins .count + 1) → ToDeliver q (listsOf q ends sides fixed rate work) S (q .target)
+  plan-start ends sides fixed rate work S masks wires filled e =
+      subst (λ (X : ℕ). ToDeliver q (listsOf q ends sides fixed rate work) X (q .target)) (sym (all-here q v S e))
       (record {
-        known = record { valid = v; sides = sides; filled = filled; subquery = subqueries-law (q .joins) (relationsOf q) (v .tree) .whole };
+        known = record {
+          valid = v;
+          lists-are = refl;
+          masks = masks;
+          wires = wires;
+          filled = filled;
+          subquery = subqueries-law (q .joins) (relationsOf q) (v .tree) .whole;
+        };
         listed = v .target-in;
         cost = c;
         cost-is = number;

@@ -1,48 +1,60 @@
-// Filling the work area: Delivered of every subquery at every site, sets in ascending number.
+// Filling the work area: the cells of every subquery at every site, sets in ascending number.
 use crate::joining::start_row;
+use crate::reading::size_of;
+use crate::reading::spared_at;
 use crate::sending::store;
-use crate::splitting::size_of;
+use crate::wiring::Wires;
 use query::Query;
-use relations::ends;
 use relations::is_subquery;
-use relations::sides;
 use relations::single;
 ghost use Prim.Native.Nat.{_≤_};
 ghost use lib.ListN.{length};
 ghost use Rattle.query.specs.Query.{Valid};
-ghost use Rattle.solver.specs.Code.{FilledFrom};
+ghost use Rattle.solver.specs.Code.{MasksOf, WiresOf, FilledFrom};
+
+// The joins as masks: the two relations of each, and the relations on its first relation's side.
+pub struct Masks {
+    pub ends: [usize; 8],
+    pub sides: [usize; 8],
+}
 
 // Fills the cells of every subquery, and counts the joins in all of them.
-pub(crate) fn fill(q: Query, work: &mut [u64]) -> u64
+pub(crate) fn fill(q: Query, masks: Masks, wires: Wires, work: &mut [u64]) -> u64
     requires { ⌜ Valid q × (4096 ≤ length (now work)) ⌝ }
+    requires { ⌜ MasksOf q (masks .ends) (masks .sides) × WiresOf q (wires .fixed) (wires .rate) ⌝ }
     ensures { λ r. ⌜ FilledFrom q (now (work .entry)) (now (work .exit)) r ⌝ }
 {
-    let count = q.joins.count;
-    let cuts = ends(q.joins);
-    let around = sides(q.joins);
-    let end = single(count + 1);
+    let joins = q.joins.count;
+    let sites = q.sites.count;
+    let end = single(joins + 1);
     let mut tried = 0;
     let mut set = 1;
     while set < end {
-        if is_subquery(&cuts, count, set) {
+        if is_subquery(&masks.ends, joins, set) {
+            let size = size_of(&q.sizes, set);
             let row = start_row(
                 &*work,
-                &around,
-                q.joins,
-                q.relations,
-                &q.sizes,
-                q.sites,
+                &masks.ends,
+                &masks.sides,
+                &q.relations.home,
+                &q.sites.may,
+                &q.sites.fixed,
+                &q.sites.rate,
+                size,
+                joins,
+                sites,
                 set,
             );
-            let size = size_of(&q.sizes, set);
+            let spared = spared_at(&q.relations.home, &q.relations.index, set);
             store(
                 &mut *work,
                 &row,
-                &q.lines.flag,
-                &q.lines.fixed,
-                &q.lines.rate,
+                &wires.fixed,
+                &wires.rate,
+                &q.sites.rate,
+                spared,
                 size,
-                q.sites.count,
+                sites,
                 set,
             );
             tried = tried + (usize::count_ones(set) as u64 - 1);

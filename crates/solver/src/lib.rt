@@ -1,10 +1,12 @@
-// The two tables of equations (8) and (9): the cheapest plan of every subquery at every site.
+// Solving: the cells of the two tables, filled set by set, and the plan written from them.
+mod bare;
 mod cells;
 mod filling;
 mod joining;
+mod reading;
 mod sending;
 mod solving;
-mod splitting;
+mod wiring;
 mod writing;
 
 pub use solving::Solved;

@@ -1,10 +1,15 @@
 // Solving a query: the cheapest plan, its cost and the trials, or no route.
 use crate::cells::NONE;
 use crate::cells::place;
+use crate::filling::Masks;
 use crate::filling::fill;
+use crate::reading::last_reading;
+use crate::wiring::wired;
 use crate::writing::write_plan;
 use query::Charge;
 use query::Query;
+use relations::ends;
+use relations::sides;
 use relations::whole;
 ghost use Prim.Native.Nat.{_+_, _≤_};
 ghost use mathlib.Core.Path.{_≡_};
@@ -34,13 +39,19 @@ pub fn solve(q: Query, work: &mut [u64], plan: &mut [u8]) -> Solved
     ensures cells { λ _.
         ⌜ (length (now (work .exit)) ≡ length (now (work .entry))) × (drop 4096 (now (work .exit)) ≡ drop 4096 (now (work .entry))) ⌝ }
 {
-    let joins = fill(q, &mut *work);
+    let masks = Masks {
+        ends: ends(q.joins),
+        sides: sides(q.joins),
+    };
+    let lines = wired(q.lines);
+    let joins = fill(q, masks, lines, &mut *work);
     let sites = q.sites.count as u64;
     let trials = sites * joins;
     let at = place(whole(q.joins.count + 1), q.target);
-    let cost = work[at];
-    if cost < NONE {
-        let length = write_plan(q, &*work, &mut *plan);
+    let cell = work[at];
+    if cell < NONE {
+        let cost = cell - last_reading(q);
+        let length = write_plan(q, masks, lines, &*work, &mut *plan);
         return Solved::Found {
             cost: Charge(cost),
             length,

@@ -9,8 +9,9 @@ start-row-spec =
     tie.close
     (tie.spec
     (λ c κs. search needs)
-    (λ c κs. rw (c .home-of .ensures) (c .before .before .before .before .before .pre .1 (c .before .before .before .if1 .taken)))
-    (λ c. start-bare _ _ _ _ _ _ _ (c .before .before .before .before .before .before .pre .0 .few-sites) (c .before .before .before .before .if1 .taken) (c .before .home-of .ensures) (c .bare-row .ensures))
+    (λ c κs. rw (c .home-of .ensures) (c .before .before .before .pre .0 .1 (c .before .if1 .taken)))
+    (λ c. search (needs, start-bare))
     (λ c κs. search needs)
     (λ c κs. search needs)
-    (λ c. start-joined _ _ _ _ _ _ _ (c .before .before .before .before .if1 .left) (c .before .before .before .join-row .ensures) (c .permitted .ensures)))
+    (λ c κs. search needs)
+    (λ c. search (needs, start-joined)))

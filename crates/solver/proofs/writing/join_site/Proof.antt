@@ -1,8 +1,6 @@
--- `writing::join_site` meets its contract: the row of Joined is worked out again, and the lowest site of the least figure is the best site. Assumes nothing.
-use native.Mathlib.Omega.{arith}
-use Rattle.solver.proofs.SetsFilled.{priced-here}
-use Rattle.solver.proofs.Columns.{set-low}
-use Rattle.solver.proofs.PlanBytes.{low, known-startable, known-marked, site-is}
+-- `writing::join_site` meets its contract: the row that the set starts from is worked out again, and the lowest site of the least figure is chosen. Assumes nothing.
+use borrow.Author.Needs.{needs}
+use Rattle.solver.proofs.Agree.{row-most, site-by}
 use Rattle.solver.proofs.writing.join_site.Statement.{statement}
 use Rattle.solver.proofs.writing.join_site.Tie as tie
 
@@ -10,11 +8,11 @@ pub join-site-spec : {M : Type 1} → statement M
 join-site-spec =
     tie.close
     (tie.spec
-    (λ c κs. let s = c .before .before .before in let q = s .args .t1 in let k = s .pre .0 in let v = k .valid in
-    set-low q v _ (low q _ _ _ k))
-    (λ c κs. let s = c .before .before .before .before .before .before .before .before .before .before in let q = s .args .t1 in let k = s .pre .0 in
-    known-startable q _ _ _ k)
-    (λ c κs. let s = c .before .before .before .before .before .before .before .before .before .before .before .before .before .before .before .before in let q = s .args .t1 in let k = s .pre .0 in let v = k .valid in
-    (known-marked q _ _ _ k _ (c .before .before .before .before .before .start-row .ensures), (priced-here q v (s .args .set) _ (c .before .before .before .before .before .before .before .before .before .before .before .before .size-of .ensures), omega (arith, s .pre .1 .0, v .sites-most))))
-    (λ c. let s = c .before .before .before .before .before .before .before .before .before .before .before .before .before .before .before .before .before in let q = s .args .t1 in let k = s .pre .0 in
-    site-is q _ _ _ k _ (c .before .before .before .before .before .before .start-row .ensures) _ _ _ (s .pre .1 .1) (c .before .before .before .before .before .before .before .before .before .before .before .before .before .size-of .ensures) (c .best-site .ensures)))
+    (λ c κs. search needs)
+    (λ c κs. let s = c .before .before in let p = s .pre .0 in
+    ((p .joinable, p .home-low), (p .fixed-most, (p .rate-most, rw (c .size-of .ensures) (p .sizes-most (s .args .set))))))
+    (λ c κs. let s = c .before .before .before .before in let p = s .pre .0 in let size = c .before .before .size-of .ensures in (
+      row-most _ _ _ _ p size (c .before .start-row .ensures),
+      (record { fixed-most = p .wire-fixed-most; rate-most = p .wire-rate-most; size-most = rw size (p .sizes-most (s .args .set)) }, s .pre .1),
+    ))
+    (λ c. site-by _ _ _ _ (c .before .before .before .before .before .pre .0) (c .before .before .before .size-of .ensures) (c .before .before .start-row .ensures) _ _ (c .best-site .ensures)))

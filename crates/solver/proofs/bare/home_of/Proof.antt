@@ -1,7 +1,7 @@
--- `splitting::home_of` meets its contract: it looks up the set's one relation. Assumes nothing.
+-- `bare::home_of` meets its contract: it looks up the set's one relation. Assumes nothing.
 use borrow.Author.Needs.{needs}
-use Rattle.solver.proofs.splitting.home_of.Statement.{statement}
-use Rattle.solver.proofs.splitting.home_of.Tie as tie
+use Rattle.solver.proofs.bare.home_of.Statement.{statement}
+use Rattle.solver.proofs.bare.home_of.Tie as tie
 
 pub home-of-spec : {M : Type 1} → statement M
 home-of-spec =

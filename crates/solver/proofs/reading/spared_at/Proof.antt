@@ -1,8 +1,8 @@
--- `splitting::spared_at` meets its contract: each way through it is a case of the definition. Assumes nothing.
+-- `reading::spared_at` meets its contract: each way through it is a case of the definition. Assumes nothing.
 use borrow.Author.Needs.{needs}
 use Rattle.solver.proofs.Operands.{spared-many, spared-home, spared-none}
-use Rattle.solver.proofs.splitting.spared_at.Statement.{statement}
-use Rattle.solver.proofs.splitting.spared_at.Tie as tie
+use Rattle.solver.proofs.reading.spared_at.Statement.{statement}
+use Rattle.solver.proofs.reading.spared_at.Tie as tie
 
 pub spared-at-spec : {M : Type 1} → statement M
 spared-at-spec =
