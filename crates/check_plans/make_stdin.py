@@ -5,28 +5,13 @@
   make_stdin.py OUT EXPECTED  also writes what document 01 says of each plan, worked out here by itself
 """
 import itertools
+import pathlib
 import sys
 
+sys.path.insert(0, str(pathlib.Path(__file__).resolve().parents[2] / "tests"))
+from queryfile import amount, subqueries, terms  # noqa: E402
+
 LOAD, SEND, JOIN = 1, 2, 3
-
-
-def amount(v):
-    return v.to_bytes(4, "little")
-
-
-def subqueries(n, joins):
-    """The numbers of the connected sets of relations, ascending."""
-    found = []
-    for s in range(1, 2**n):
-        seen = {(s & -s).bit_length() - 1}
-        while True:
-            more = {y for a, b in joins for x, y in ((a, b), (b, a)) if x in seen and s >> y & 1} - seen
-            if not more:
-                break
-            seen |= more
-        if seen == {r for r in range(n) if s >> r & 1}:
-            found.append(s)
-    return found
 
 
 class Query:
@@ -36,9 +21,6 @@ class Query:
         self.lines = {(a, b): line(a, b) for a, b in itertools.permutations(range(len(sites)), 2)}
 
     def file(self):
-        def terms(flag, fixed, rate):
-            return bytes([flag]) + amount(fixed) + amount(rate)
-
         return b"".join(
             [
                 bytes([len(self.sites)]) + b"".join(terms(*t) for t in self.sites),

@@ -5,30 +5,11 @@
   make_stdin.py OUT EXPECTED  also writes what document 01 says of each file, worked out here by itself
 """
 import itertools
+import pathlib
 import sys
 
-
-def amount(v):
-    return v.to_bytes(4, "little")
-
-
-def terms(flag, fixed, rate):
-    return bytes([flag]) + amount(fixed) + amount(rate)
-
-
-def subqueries(n, joins):
-    """The numbers of the connected sets of relations, ascending."""
-    found = []
-    for s in range(1, 2**n):
-        seen = {(s & -s).bit_length() - 1}
-        while True:
-            more = {y for a, b in joins for x, y in ((a, b), (b, a)) if x in seen and s >> y & 1} - seen
-            if not more:
-                break
-            seen |= more
-        if seen == {r for r in range(n) if s >> r & 1}:
-            found.append(s)
-    return found
+sys.path.insert(0, str(pathlib.Path(__file__).resolve().parents[2] / "tests"))
+from queryfile import amount, subqueries, terms  # noqa: E402
 
 
 def sections(sites, relations, joins, size, line, target):

@@ -9,9 +9,11 @@ use lib.Seq.{getD-set-same, getD-set-other}
 use lib.Dec.{eqb}
 use borrow.Author.Tests.{lt-ltb, le-ltb}
 use borrow.Author.Count.{below-more}
+use mir.Syntax.{w64}
+use mir.Val.{Fits}
 use Rattle.query.specs.Prices.{read}
 use Rattle.solver.specs.declared.cells.Choice.{Choice}
-use Rattle.solver.specs.Code.{place, noneMark, placeOf, ChoiceOf, betterOf, carriageAt, siteTrial, deliveredAt, withReading, heldAt, Stored}
+use Rattle.solver.specs.Code.{place, noneMark, placeOf, ChoiceOf, betterOf, Priced, carriageAt, siteTrial, deliveredAt, withReading, heldAt, Stored}
 use Rattle.solver.proofs.Figures.{place-apart, choice-more}
 
 -- The sites where a subquery may be joined, one after the other.
@@ -57,6 +59,12 @@ held-at row fixed rate rates spared size s t x v c h e f = f ∙ rw (h .figure-i
 pub carriage-at : (fixed rate : List ℕ) (size k t line sent : ℕ) → line ≡ 8 * k + t → sent ≡ getD rate line 0 * size → getD fixed line 0 + sent ≡ carriageAt fixed rate size k t
 unfolding carriageAt
 carriage-at fixed rate size k t line sent e f = rw (f, e)
+
+pub carriage-most : (fixed rate : List ℕ) (size i sent : ℕ) → Priced fixed rate size → sent ≤ 1_000 * size → getD fixed i 0 + sent ≤ noneMark + 1_000_000_000_000
+carriage-most fixed rate size i sent p h = omega (arith, p .fixed-most i, p .size-most)
+
+pub carriage-fits : (fixed rate : List ℕ) (size i sent : ℕ) → Priced fixed rate size → sent ≤ 1_000 * size → Fits w64 (getD fixed i 0 + sent)
+carriage-fits fixed rate size i sent p h = omega (arith, carriage-most fixed rate size i sent p h)
 
 -- A figure with the reading of its result: that of none stays.
 pub reading-added : (figure cost : ℕ) → figure < noneMark → figure + cost ≡ withReading figure cost
