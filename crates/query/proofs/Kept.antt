@@ -1,21 +1,24 @@
 -- What the sections keep to once they are read whole, and that joins so read can be grown along and, where they reach every relation, make a tree.
 use Prim.Native.Nat.{ℕ, _+_, _≤_}
 use native.Mathlib.Omega.{arith}
-use mathlib.Core.Path.{_≡_, sym}
-use mathlib.Core.Bool.{Bool, true}
+use mathlib.Core.Path.{_≡_, sym, ap, _∙_}
+use mathlib.Core.Bool.{Bool, false, not}
 use mathlib.Core.List.{List}
 use lib.ListN.{drop}
+use borrow.Author.Tests.{not-false}
 use Rattle.relations.specs.declared.Joins.{Joins}
-use Rattle.relations.specs.Trees.{Tree, reaches}
+use Rattle.relations.specs.Trees.{Tree, reaches, subqueries}
 use Rattle.relations.specs.Code.{Drawn}
 use Rattle.relations.proofs.Drawing.{tree-of}
 use Rattle.query.specs.declared.sections.Outcome.{Outcome}
 use Rattle.query.specs.declared.sections.Outcome.the-variants.{Whole}
+use Rattle.query.specs.declared.Sites.{Sites}
 use Rattle.query.specs.declared.Relations.{Relations}
 use Rattle.query.specs.Fields.{Read, value}
+use Rattle.query.specs.Decode.{sitesSection, relationsSection, joinsSection}
 use Rattle.query.specs.Code.{readOf}
 use Rattle.query.proofs.Gives.{Has}
-use Rattle.query.proofs.Ranges.{RelationsIn, JoinsIn}
+use Rattle.query.proofs.Ranges.{SitesIn, sites-in, RelationsIn, relations-in, JoinsIn, joins-in}
 
 -- A section's answer, read whole, has what its definition gives.
 pub whole-in : {A : Type 0} (P : A → Type 0) (x : Read A) → Has P x → (o : Outcome) (a : A) (used : ℕ) (l : List ℕ) → readOf o a used l ≡ x → o ≡ Whole → P a
@@ -23,14 +26,27 @@ whole-in P x has o a used l e h =
     let f : value a (drop used l) ≡ x = rw h at e in
     rw (sym f) at has
 
-module _ {s : ℕ} {a : Relations} {J : Joins} (r : RelationsIn s a) (k : JoinsIn (a .count) J) where
-  pub kept-count : J .count + 1 ≡ a .count
-  kept-count = omega arith
+-- Each of the first three sections, read whole, keeps to what the next one asks.
+module _ (o : Outcome) (used : ℕ) (l : List ℕ) (whole : o ≡ Whole) where
+  pub sites-kept : (a : Sites) → readOf o a used l ≡ sitesSection l → (1 ≤ a .count) × (a .count ≤ 8)
+  sites-kept a e =
+      let k = whole-in SitesIn _ (sites-in l) o a used l e whole in
+      (k .some, k .most)
 
-  pub kept-drawn : Drawn J
-  kept-drawn =
-      record { few = omega arith; first-in = λ e l. omega (arith, k .firsts e); second-in = λ e l. omega (arith, k .seconds e) }
+  pub relations-kept : (s : ℕ) (a : Relations) → readOf o a used l ≡ relationsSection s l → (1 ≤ a .count) × (a .count ≤ 9)
+  relations-kept s a e =
+      let k = whole-in (RelationsIn s) _ (relations-in s l) o a used l e whole in
+      (k .some, k .most)
 
-  pub kept-tree : (b : Bool) → b ≡ reaches J (J .count + 1) → b ≡ true → (J .count ≤ 8) × Tree J (J .count + 1)
-  kept-tree b t h =
-      (kept-drawn .few, tree-of J b kept-drawn t h)
+  pub joins-kept : (n : ℕ) (J : Joins) → (1 ≤ n) × (n ≤ 9) → readOf o J used l ≡ joinsSection n l → Drawn J × (J .count + 1 ≡ n)
+  joins-kept n J b e =
+      let k = whole-in (JoinsIn n) _ (joins-in n l) o J used l e whole in
+      (record { few = omega arith; first-in = λ i h. omega (arith, k .firsts i); second-in = λ i h. omega (arith, k .seconds i) }, omega arith)
+
+-- Joins that can be grown along, and that reach every relation, make a tree.
+pub tree-kept : (J : Joins) (b : Bool) → Drawn J → b ≡ reaches J (J .count + 1) → not b ≡ false → (J .count ≤ 8) × Tree J (J .count + 1)
+tree-kept J b d t h = (d .few, tree-of J b d t (not-false b h))
+
+-- The number of subqueries, counted over the joins, is that of the query.
+pub due-kept : (J : Joins) (n k : ℕ) → k ≡ subqueries J (J .count + 1) → J .count + 1 ≡ n → k ≡ subqueries J n
+due-kept J n k e c = e ∙ ap (subqueries J) c

@@ -100,23 +100,33 @@ linesSection s l = andThen (countField (s * (s - 1)) (s * (s - 1)) l) (λ m l. i
 unfoldable pub deliverySection : ℕ → List ℕ → Read ℕ
 deliverySection s l = andThen (countField 1 1 l) (λ m l. byteBelow s l)
 
--- The whole file. Refusal 4 is judged after the last join, refusal 5 after Delivery.
-unfoldable pub decode : List ℕ → Read Query
-decode file =
-    andThen (sitesSection file)
-    (λ sites l.
-    andThen (relationsSection (sites .count) l)
-    (λ relations l.
-    andThen (joinsSection (relations .count) l)
-    (λ joins l.
-    pick (reaches joins (relations .count))
-    (andThen (sizesSection joins (relations .count) l)
-    (λ sizes l.
-    andThen (linesSection (sites .count) l)
-    (λ lines l.
+-- The whole file, each section read from where the last one ended. Delivery is the last: refusal 5 where bytes follow it.
+abbrev pub afterDelivery : Query → List ℕ → Read Query
+afterDelivery query l = pick (eqb (length l) 0) (value query []) (refused 5)
+
+-- After the lines, Delivery. With it the query has all its parts.
+abbrev pub afterLines : Sites → Relations → Joins → List ℕ → Lines → List ℕ → Read Query
+afterLines sites relations joins sizes lines l =
     andThen (deliverySection (sites .count) l)
-    (λ target l.
-    pick (eqb (length l) 0)
-    (value (record { sites = sites; relations = relations; joins = joins; sizes = sizes; lines = lines; target = target }) [])
-    (refused 5)))))
-    (refused 4))))
+    (λ target l. afterDelivery (record { sites = sites; relations = relations; joins = joins; sizes = sizes; lines = lines; target = target }) l)
+
+-- After the sizes, the lines.
+abbrev pub afterSizes : Sites → Relations → Joins → List ℕ → List ℕ → Read Query
+afterSizes sites relations joins sizes l = andThen (linesSection (sites .count) l) (afterLines sites relations joins sizes)
+
+-- After the last join, refusal 4 where the joins do not reach all relations from relation 0, else the sizes.
+abbrev pub afterJoins : Sites → Relations → Joins → List ℕ → Read Query
+afterJoins sites relations joins l =
+    pick (reaches joins (relations .count)) (andThen (sizesSection joins (relations .count) l) (afterSizes sites relations joins)) (refused 4)
+
+-- After the relations, the joins.
+abbrev pub afterRelations : Sites → Relations → List ℕ → Read Query
+afterRelations sites relations l = andThen (joinsSection (relations .count) l) (afterJoins sites relations)
+
+-- After the sites, the relations.
+abbrev pub afterSites : Sites → List ℕ → Read Query
+afterSites sites l = andThen (relationsSection (sites .count) l) (afterRelations sites)
+
+-- The sites stand first.
+unfoldable pub decode : List ℕ → Read Query
+decode file = andThen (sitesSection file) afterSites

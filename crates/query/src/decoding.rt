@@ -1,5 +1,8 @@
 // The whole query file: its sections in reading order, the tree test after the last join, and nothing after Delivery.
+use crate::Lines;
 use crate::Query;
+use crate::Relations;
+use crate::Sites;
 use crate::fields::part_from;
 use crate::line_section::no_lines;
 use crate::line_section::read_lines;
@@ -12,11 +15,15 @@ use crate::sections::read_joins;
 use crate::sections::read_relations;
 use crate::sections::read_sites;
 use crate::sizes::read_sizes;
+use relations::Joins;
 use relations::count_subqueries;
 use relations::reaches;
+ghost use Prim.Native.Nat.{_+_, _≤_};
 ghost use mathlib.Core.Path.{_≡_};
+ghost use Rattle.relations.specs.Trees.{subqueries};
+ghost use Rattle.relations.specs.Code.{Drawn};
 ghost use Rattle.query.specs.Fields.{refused};
-ghost use Rattle.query.specs.Decode.{decode};
+ghost use Rattle.query.specs.Decode.{afterLines, afterSizes, afterJoins, afterRelations, afterSites, decode};
 ghost use Rattle.query.specs.Code.{outcomeFault, noQuery, decodedOf};
 
 // A decoded file: the query and its number of subqueries, or a refusal and nothing else.
@@ -61,56 +68,111 @@ fn refused(fault: u64) -> Decoded
     }
 }
 
-// The query that a file holds, or the number of its first refusal.
+// The query that a file holds, or the number of its first refusal. Sites stand first. Each function after this one reads the next section from the
+// part that is left: it refuses, or goes on with what it read.
 pub fn decode(file: &[u8]) -> Decoded
     ensures { λ r. ⌜ r ≡ decodedOf (decode (now (file .entry))) ⌝ }
 {
-    let a = read_sites(file);
-    let o = a.outcome;
+    let read = read_sites(file);
+    let o = read.outcome;
     let Outcome::Whole = o else {
         return refused(outcome_fault(o));
     };
-    let sites = a.sites;
-    let s = sites.count;
-    let part = part_from(file, a.used);
-    let b = read_relations(part, s);
-    let o = b.outcome;
+    let part = part_from(file, read.used);
+    after_sites(part, read.sites)
+}
+
+// After the sites, the relations.
+fn after_sites(part: &[u8], sites: Sites) -> Decoded
+    requires { ⌜ (1 ≤ sites .count) × (sites .count ≤ 8) ⌝ }
+    ensures { λ r. ⌜ r ≡ decodedOf (afterSites sites (now (part .entry))) ⌝ }
+{
+    let read = read_relations(part, sites.count);
+    let o = read.outcome;
     let Outcome::Whole = o else {
         return refused(outcome_fault(o));
     };
-    let relations = b.relations;
-    let part = part_from(part, b.used);
-    let c = read_joins(part, relations.count);
-    let o = c.outcome;
+    let part = part_from(part, read.used);
+    after_relations(part, sites, read.relations)
+}
+
+// After the relations, the joins.
+fn after_relations(part: &[u8], sites: Sites, relations: Relations) -> Decoded
+    requires { ⌜ (1 ≤ sites .count) × (sites .count ≤ 8) ⌝ }
+    requires { ⌜ (1 ≤ relations .count) × (relations .count ≤ 9) ⌝ }
+    ensures { λ r. ⌜ r ≡ decodedOf (afterRelations sites relations (now (part .entry))) ⌝ }
+{
+    let read = read_joins(part, relations.count);
+    let o = read.outcome;
     let Outcome::Whole = o else {
         return refused(outcome_fault(o));
     };
-    let joins = c.joins;
-    let part = part_from(part, c.used);
+    let part = part_from(part, read.used);
+    after_joins(part, sites, relations, read.joins)
+}
+
+// After the last join, the tree test; then the sizes, as many as the tree has subqueries, which are counted once.
+fn after_joins(part: &[u8], sites: Sites, relations: Relations, joins: Joins) -> Decoded
+    requires { ⌜ (1 ≤ sites .count) × (sites .count ≤ 8) ⌝ }
+    requires { ⌜ Drawn joins × (joins .count + 1 ≡ relations .count) ⌝ }
+    ensures { λ r. ⌜ r ≡ decodedOf (afterJoins sites relations joins (now (part .entry))) ⌝ }
+{
     if !reaches(joins) {
         return refused(4);
     }
     let due = count_subqueries(joins);
-    let d = read_sizes(part, joins, due);
-    let o = d.outcome;
+    let read = read_sizes(part, joins, due);
+    let o = read.outcome;
     let Outcome::Whole = o else {
         return refused(outcome_fault(o));
     };
-    let sizes = d.sizes;
-    let part = part_from(part, d.used);
-    let e = read_lines(part, s);
-    let o = e.outcome;
+    let sizes = read.sizes;
+    let part = part_from(part, read.used);
+    after_sizes(part, sites, relations, joins, sizes, due)
+}
+
+// After the sizes, the lines.
+fn after_sizes(
+    part: &[u8],
+    sites: Sites,
+    relations: Relations,
+    joins: Joins,
+    sizes: [u64; 512],
+    due: usize,
+) -> Decoded
+    requires { ⌜ (1 ≤ sites .count) × (sites .count ≤ 8) ⌝ }
+    requires { ⌜ due ≡ subqueries joins (relations .count) ⌝ }
+    ensures { λ r. ⌜ r ≡ decodedOf (afterSizes sites relations joins sizes (now (part .entry))) ⌝ }
+{
+    let read = read_lines(part, sites.count);
+    let o = read.outcome;
     let Outcome::Whole = o else {
         return refused(outcome_fault(o));
     };
-    let lines = e.lines;
-    let part = part_from(part, e.used);
-    let f = read_delivery(part, s);
-    let o = f.outcome;
+    let part = part_from(part, read.used);
+    after_lines(part, sites, relations, joins, sizes, read.lines, due)
+}
+
+// After the lines, Delivery. No byte follows it.
+fn after_lines(
+    part: &[u8],
+    sites: Sites,
+    relations: Relations,
+    joins: Joins,
+    sizes: [u64; 512],
+    lines: Lines,
+    due: usize,
+) -> Decoded
+    requires { ⌜ 1 ≤ sites .count ⌝ }
+    requires { ⌜ due ≡ subqueries joins (relations .count) ⌝ }
+    ensures { λ r. ⌜ r ≡ decodedOf (afterLines sites relations joins sizes lines (now (part .entry))) ⌝ }
+{
+    let read = read_delivery(part, sites.count);
+    let o = read.outcome;
     let Outcome::Whole = o else {
         return refused(outcome_fault(o));
     };
-    let part = part_from(part, f.used);
+    let part = part_from(part, read.used);
     if part.len() != 0 {
         return refused(5);
     }
@@ -122,7 +184,7 @@ pub fn decode(file: &[u8]) -> Decoded
             joins,
             sizes,
             lines,
-            target: f.target,
+            target: read.target,
         },
         subqueries: due,
     }

@@ -45,7 +45,7 @@ fn along(joins: Joins, taken: usize, e: usize) -> usize
 }
 
 // What the taken relations grow to within a set, skipping a join: the count of joins skips none.
-pub fn grow(joins: Joins, within: usize, skip: usize, taken: usize) -> usize
+pub(crate) fn grow(joins: Joins, within: usize, skip: usize, taken: usize) -> usize
     requires { ⌜ Growable joins within taken ⌝ }
     ensures { λ r. ⌜ r ≡ grow joins within skip (joins .count + 1) taken ⌝ }
 {

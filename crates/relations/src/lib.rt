@@ -4,7 +4,6 @@ mod member;
 mod subquery;
 mod tree;
 
-pub use growing::grow;
 pub use member::bit;
 pub use member::single;
 pub use member::whole;
