@@ -2,7 +2,7 @@
  *
  *   bench              the three shapes of nine relations at eight sites
  *   bench growth       one line for each n and s: n s trials solve-ns plain-ns
- *   bench once SHAPE   one whole call of each, for counting instructions
+ *   bench hundred SHAPE solve|call   a hundred of each, for counting instructions
  */
 #define _POSIX_C_SOURCE 200809L
 #include <stdio.h>
@@ -188,15 +188,13 @@ int main(int argc, char **argv)
     static const char *const shapes[] = {"star", "chain", "tree"};
     query_file f;
     double best[WORKS];
-    if (argc == 3 && strcmp(argv[1], "once") == 0) {
-        uint8_t plan[69];
+    if (argc == 4 && strcmp(argv[1], "hundred") == 0) {
         plain_query q;
-        static uint64_t cells[4096];
+        int call = strcmp(argv[3], "call") == 0;
         make(&f, argv[2], 9, 8);
         plain_load(&q, f.bytes, f.length);
-        sink += fanchuki_solves(f.bytes, f.length, 100);
-        for (int i = 0; i < 100; i++)
-            sink += plain_solve(&q, cells, plan).cost;
+        run(call ? PRODUCT_CALL : PRODUCT_SOLVE, &f, &q, 100);
+        run(call ? PLAIN_CALL : PLAIN_SOLVE, &f, &q, 100);
         return 0;
     }
     if (argc == 2 && strcmp(argv[1], "growth") == 0) {
