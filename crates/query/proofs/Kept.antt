@@ -1,4 +1,5 @@
--- What the sections keep to once they are read whole, and that joins so read can be grown along and, where they reach every relation, make a tree.
+-- What the sections keep to once they are read whole: counts within their limits, and joins that can be grown along and, where they reach every
+-- relation, make a tree.
 use Prim.Native.Nat.{ℕ, _+_, _≤_}
 use native.Mathlib.Omega.{arith}
 use mathlib.Core.Path.{_≡_, sym, ap, _∙_}
@@ -21,7 +22,7 @@ use Rattle.query.proofs.Gives.{Has}
 use Rattle.query.proofs.Ranges.{SitesIn, sites-in, RelationsIn, relations-in, JoinsIn, joins-in}
 
 -- A section's answer, read whole, has what its definition gives.
-pub whole-in : {A : Type 0} (P : A → Type 0) (x : Read A) → Has P x → (o : Outcome) (a : A) (used : ℕ) (l : List ℕ) → readOf o a used l ≡ x → o ≡ Whole → P a
+whole-in : {A : Type 0} (P : A → Type 0) (x : Read A) → Has P x → (o : Outcome) (a : A) (used : ℕ) (l : List ℕ) → readOf o a used l ≡ x → o ≡ Whole → P a
 whole-in P x has o a used l e h =
     let f : value a (drop used l) ≡ x = rw h at e in
     rw (sym f) at has

@@ -100,11 +100,12 @@ linesSection s l = andThen (countField (s * (s - 1)) (s * (s - 1)) l) (λ m l. i
 unfoldable pub deliverySection : ℕ → List ℕ → Read ℕ
 deliverySection s l = andThen (countField 1 1 l) (λ m l. byteBelow s l)
 
--- The whole file, each section read from where the last one ended. Delivery is the last: refusal 5 where bytes follow it.
+-- The whole file, each section read from where the last one ended; told from its end, as each definition goes on with the one above it.
+-- After Delivery, refusal 5 where bytes follow.
 abbrev pub afterDelivery : Query → List ℕ → Read Query
 afterDelivery query l = pick (eqb (length l) 0) (value query []) (refused 5)
 
--- After the lines, Delivery. With it the query has all its parts.
+-- After the lines, Delivery, with which the query has all its parts.
 abbrev pub afterLines : Sites → Relations → Joins → List ℕ → Lines → List ℕ → Read Query
 afterLines sites relations joins sizes lines l =
     andThen (deliverySection (sites .count) l)
@@ -127,6 +128,6 @@ afterRelations sites relations l = andThen (joinsSection (relations .count) l) (
 abbrev pub afterSites : Sites → List ℕ → Read Query
 afterSites sites l = andThen (relationsSection (sites .count) l) (afterRelations sites)
 
--- The sites stand first.
+-- The whole file begins with the sites.
 unfoldable pub decode : List ℕ → Read Query
 decode file = andThen (sitesSection file) afterSites
