@@ -1,5 +1,5 @@
 pub mod Figures
-pub mod Operands
+pub mod Spared
 pub mod Turns
 pub mod Routes
 pub mod Wires

@@ -1,6 +1,6 @@
 -- `reading::spared_at` meets its contract: each way through it is a case of the definition. Assumes nothing.
 use borrow.Author.Needs.{needs}
-use Rattle.solver.proofs.Operands.{spared-many, spared-home, spared-none}
+use Rattle.solver.proofs.Spared.{spared-many, spared-home, spared-none}
 use Rattle.solver.proofs.reading.spared_at.Statement.{statement}
 use Rattle.solver.proofs.reading.spared_at.Tie as tie
 
