@@ -1,6 +1,6 @@
 // Checks plans from standard input: a query file and a plan, and so on, each after its length in two bytes, little-endian.
 // Prints the cost of an allowed plan, or the refusal's number and place; where the query itself is refused, its number alone.
-ghost use Prim.Native.Nat.{_≤_, _<_};
+ghost use Prim.Native.Nat.{_≤_};
 ghost use lib.ListN.{length};
 use libc::STDIN_FILENO;
 use libc::STDOUT_FILENO;
@@ -8,6 +8,7 @@ use query::Charge;
 use query::Outcome;
 use query::Query;
 use query::decode;
+use records::record;
 use rules::Checked;
 use rules::check;
 
@@ -55,26 +56,6 @@ fn report(file: &[u8], plan: &[u8]) {
             end_line();
         }
     }
-}
-
-fn wide(x: u8) -> usize
-    ensures { λ r. ⌜ r < 256 ⌝ }
-{
-    x as usize
-}
-
-// How many bytes the first record of the input takes with its length: 0 where it is cut.
-fn record(input: &[u8]) -> usize
-    ensures { λ r. ⌜ r ≤ length (now (input .entry)) ⌝ }
-{
-    if input.len() < 2 {
-        return 0;
-    }
-    let n = wide(input[0]) + 256 * wide(input[1]) + 2;
-    if input.len() < n {
-        return 0;
-    }
-    n
 }
 
 // Checks the first pair of the input, and answers how many bytes it took: 0 at the end of the input.

@@ -1,5 +1,5 @@
 // Decodes query files from standard input, each after its length in two bytes, little-endian, and prints what each holds.
-ghost use Prim.Native.Nat.{_≤_, _<_};
+ghost use Prim.Native.Nat.{_≤_};
 ghost use lib.ListN.{length};
 use libc::STDIN_FILENO;
 use libc::STDOUT_FILENO;
@@ -9,6 +9,7 @@ use query::Query;
 use query::Relations;
 use query::Sites;
 use query::decode;
+use records::record;
 use relations::Joins;
 
 // A number after a space.
@@ -107,21 +108,12 @@ fn report(file: &[u8]) {
     }
 }
 
-fn wide(x: u8) -> usize
-    ensures { λ r. ⌜ r < 256 ⌝ }
-{
-    x as usize
-}
-
 // Reports the first file of the input, and answers how many bytes it took with its length: 0 at the end of the input.
 fn first(input: &[u8]) -> usize
     ensures { λ r. ⌜ r ≤ length (now (input .entry)) ⌝ }
 {
-    if input.len() < 2 {
-        return 0;
-    }
-    let n = wide(input[0]) + 256 * wide(input[1]) + 2;
-    if input.len() < n {
+    let n = record(input);
+    if n < 2 {
         return 0;
     }
     report(&input[2..n]);

@@ -1,23 +1,15 @@
 // Lists the cheapest plan of each query file on standard input. A file stands after its length in two bytes, little-endian.
 use libc::STDIN_FILENO;
-ghost use Prim.Native.Nat.{_≤_, _<_};
+use records::record;
+ghost use Prim.Native.Nat.{_≤_};
 ghost use lib.ListN.{length};
-
-fn wide(x: u8) -> usize
-    ensures { λ r. ⌜ r < 256 ⌝ }
-{
-    x as usize
-}
 
 // Lists the first file of the input, and answers how many bytes it took with its length: 0 at the end of the input.
 fn first(input: &[u8]) -> usize
     ensures { λ r. ⌜ r ≤ length (now (input .entry)) ⌝ }
 {
-    if input.len() < 2 {
-        return 0;
-    }
-    let n = wide(input[0]) + 256 * wide(input[1]) + 2;
-    if input.len() < n {
+    let n = record(input);
+    if n < 2 {
         return 0;
     }
     listing::list(&input[2..n]);
