@@ -6,7 +6,11 @@
 """
 import functools
 import itertools
+import pathlib
 import sys
+
+sys.path.insert(0, str(pathlib.Path(__file__).resolve().parents[2] / "tests"))
+from queryfile import amount, terms  # noqa: E402
 
 
 class Query:
@@ -29,12 +33,6 @@ class Query:
         return self.grown(s, (s & -s).bit_length() - 1) == s
 
     def bytes(self):
-        def amount(v):
-            return v.to_bytes(4, "little")
-
-        def terms(flag, fixed, rate):
-            return bytes([flag]) + amount(fixed) + amount(rate)
-
         s = len(self.sites)
         out = bytes([s]) + b"".join(terms(*t) for t in self.sites)
         out += bytes([len(self.relations)]) + b"".join(bytes(r) for r in self.relations)
