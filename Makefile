@@ -1,6 +1,6 @@
 # make plan       prove the listing program and what stands below it, and run it on Q of document 01
 # make test       every test; it ends in rt's own line 'N passed, 0 failed'
-# make outside    only the tests from outside, over the built programs and the archive
+# make outside    only the tests from outside, over the built programs and the archive; ARGS='SEED COUNT' tries other cases
 # make bench      solve and the whole C call beside plain C
 
 .PHONY: plan test outside bench
@@ -10,7 +10,7 @@ plan:
 	@target/bin/plan <examples/q.query
 
 outside:
-	tests/outside.sh
+	tests/outside.sh $(ARGS)
 
 bench:
 	bench/run.sh $(ARGS)
