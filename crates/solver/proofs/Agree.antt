@@ -44,7 +44,7 @@ module _ (l : Lists) (S x : ℕ) (row : List ℕ) (p : Choosable l S) (size-is :
   pub row-most : Marked row (l .sites)
   row-most = record { few = p .joinable .few-sites; each = λ k h. rw (r .each k h) (start-most _ (l .home) (l .may) _ S (l .joins) k) }
 
-  pub site-by : (t : ℕ) (c : Choice) → ChoiceOf (siteTrial (λ (k : ℕ). getD row k 0) (l .wire-fixed) (l .wire-rate) x t) (l .sites) c → c .at ≡ siteBy l S t
+  pub site-by : (t : ℕ) (c : Choice) → ChoiceOf (siteTrial (λ (k : ℕ). getD row k 0) (l .line-fixed) (l .line-rate) x t) (l .sites) c → c .at ≡ siteBy l S t
   unfolding siteBy siteAt siteTrial
   site-by t c h = h .at-is ∙ place-same _ _ (l .sites) (λ k m. rw (r .each k m, size-is))
 

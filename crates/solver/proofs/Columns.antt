@@ -26,10 +26,10 @@ use Rattle.query.proofs.Prices.{join-most}
 use Rattle.tables.specs.Least.{Best, best, least}
 use Rattle.tables.specs.Tables.{firstPart, otherPart, only, byJoin, joinedBy, bySite, delivered, joined}
 use Rattle.tables.specs.Plan.{bestSite}
-use Rattle.solver.specs.Code.{place, noneMark, mark, reading, cellOf, leastOf, placeOf, sparedAt, Lent, lent, joinIn, partBy, baseAt, trialOf, Triable, joinTrial, Joinable, HomeLow, joinedBelow, bareAt, startAt, siteTrial, deliveredAt, siteAt, withReading, heldAt, Marked, Filled, MasksOf, WiresOf}
+use Rattle.solver.specs.Code.{place, noneMark, mark, reading, cellOf, leastOf, placeOf, sparedAt, Lent, lent, joinIn, partBy, baseAt, trialOf, Triable, joinTrial, Joinable, HomeLow, joinedBelow, bareAt, startAt, siteTrial, deliveredAt, siteAt, withReading, heldAt, Marked, Filled, MasksOf, CarriagesOf}
 use Rattle.tables.proofs.Most.{delivered-most, joined-most}
 use Rattle.solver.proofs.Marks.{UpToOr, Shows, Kept, mark-most, kept-all, shows-joined, shows-sent, shows-more, up-to-is, up-to-read, read-figure}
-use Rattle.solver.proofs.Wires.{wires-carriage}
+use Rattle.solver.proofs.Carriages.{carriages-are}
 use Rattle.solver.proofs.Started.{startCost, started-same, delivered-started}
 use Rattle.solver.proofs.Carried.{only-is, price-is, reading-is, reading-most, carriage-up-to}
 
@@ -185,7 +185,7 @@ module _ (q : Query) (v : Valid q) (work ends sides : List ℕ) (masks : MasksOf
       go false more = made (eqb (getD (q .sites .may) k 0) 1)
 
 -- From the row that S starts from: no figure above that of none, and Delivered at every site.
-module _ (q : Query) (v : Valid q) (S : ℕ) (s : Subquery (q .joins) (relationsOf q) S) (fixed rate : List ℕ) (wires : WiresOf q fixed rate) (row : ℕ → ℕ)
+module _ (q : Query) (v : Valid q) (S : ℕ) (s : Subquery (q .joins) (relationsOf q) S) (fixed rate : List ℕ) (carriages : CarriagesOf q fixed rate) (row : ℕ → ℕ)
     (is : (k : ℕ) → k < sitesOf q → row k ≡ mark (startCost q S k)) where
   start-up-to : (k : ℕ) → UpToOr 41_000_025_000_000 (startCost q S k)
   unfolding startCost
@@ -206,7 +206,7 @@ module _ (q : Query) (v : Valid q) (S : ℕ) (s : Subquery (q .joins) (relations
   site-shows : (t k : ℕ) → t < 8 → k < sitesOf q → Shows 42_000_026_000_000 (trials t k) (bySite (startCost q S) q S t k)
   unfolding siteTrial
   site-shows t k l m =
-      rw (is k m, wires-carriage q fixed rate wires S k t (omega (arith, v .sites-most)) l)
+      rw (is k m, carriages-are q fixed rate carriages S k t (omega (arith, v .sites-most)) l)
       (shows-sent 41_000_025_000_000 1_000_001_000_000 (startCost q S k) (carriage q S k t) (start-up-to k) (carriage-up-to q v S k t))
 
   sites-kept : (t : ℕ) → t < 8 → Kept 42_000_026_000_000 (best (bySite (startCost q S) q S t) (sitesOf q)) (leastOf (trials t) (sitesOf q)) (placeOf (trials t) (sitesOf q))
@@ -221,9 +221,9 @@ module _ (q : Query) (v : Valid q) (S : ℕ) (s : Subquery (q .joins) (relations
   site-chosen t l more = sites-kept t l .at-is ∙ ap (λ (b : Best). b .at) (started-same q S t more)
 
 -- What is stored from a row is the cell.
-pub cell-held : (q : Query) → Valid q → (S : ℕ) → Subquery (q .joins) (relationsOf q) S → (fixed rate : List ℕ) → WiresOf q fixed rate → (row : List ℕ) →
+pub cell-held : (q : Query) → Valid q → (S : ℕ) → Subquery (q .joins) (relationsOf q) S → (fixed rate : List ℕ) → CarriagesOf q fixed rate → (row : List ℕ) →
     ((k : ℕ) → k < sitesOf q → getD row k 0 ≡ mark (startCost q S k)) → (t : ℕ) → t < 8 →
     heldAt row fixed rate (q .sites .rate) (sparedAt (q .relations .home) (q .relations .index) S) (getD (q .sizes) S 0) (sitesOf q) t ≡ cellOf q S t
 unfolding heldAt
-cell-held q v S s fixed rate wires row is t l =
-    rw (delivered-figure q v S s fixed rate wires (λ (k : ℕ). getD row k 0) is t l) (cell-stored q v S t s l)
+cell-held q v S s fixed rate carriages row is t l =
+    rw (delivered-figure q v S s fixed rate carriages (λ (k : ℕ). getD row k 0) is t l) (cell-stored q v S t s l)

@@ -2,7 +2,7 @@ pub mod Figures
 pub mod Spared
 pub mod Turns
 pub mod Routes
-pub mod Wires
+pub mod Carriages
 pub mod Marks
 pub mod Carried
 pub mod Started

@@ -19,7 +19,7 @@ use Rattle.tables.proofs.Tables.{ones-some, ByJoin, delivered-found, joined-fou
 use Rattle.tables.proofs.Written.{written-is}
 use Rattle.tables.proofs.StepBytes.{step-bytes-append}
 use Rattle.solver.proofs.Carried.{only-is}
-use Rattle.solver.proofs.Wires.{wires-priced}
+use Rattle.solver.proofs.Carriages.{carriages-priced}
 use Rattle.solver.proofs.Columns.{set-low, joinable, joins-kept, home-low, row-started, site-chosen, part-is}
 use Rattle.solver.proofs.Stores.{wrote-none}
 
@@ -29,7 +29,7 @@ joinBy l S j = placeOf (joinTrial (lent (l .work) (l .ends) (l .sides)) (baseAt 
 
 module _ (q : Query) (l : Lists) (S : ℕ) (k : Known q l S) where
   abbrev own : Lists
-  own = listsOf q (l .ends) (l .sides) (l .wire-fixed) (l .wire-rate) (l .work)
+  own = listsOf q (l .ends) (l .sides) (l .line-fixed) (l .line-rate) (l .work)
 
   low : S < 2 ^ relationsOf q
   low = subquery-range (q .joins) (relationsOf q) S (k .subquery) .1
@@ -43,7 +43,7 @@ module _ (q : Query) (l : Lists) (S : ℕ) (k : Known q l S) where
   pub choosable : Choosable l S
   choosable =
       let v = k .valid in
-      let priced = wires-priced q (l .wire-fixed) (l .wire-rate) (k .wires) v S in
+      let priced = carriages-priced q (l .line-fixed) (l .line-rate) (k .carriages) v S in
       subst (λ (m : Lists). Choosable m S) (sym (k .lists-are))
       (record {
         joinable = joinable q v (l .work) (l .ends) (l .sides) (k .masks) S filled-here (k .subquery);
@@ -51,8 +51,8 @@ module _ (q : Query) (l : Lists) (S : ℕ) (k : Known q l S) where
         sizes-most = v .sizes-most;
         fixed-most = v .join-fixed-most;
         rate-most = v .join-rate-most;
-        wire-fixed-most = priced .fixed-most;
-        wire-rate-most = priced .rate-most;
+        line-fixed-most = priced .fixed-most;
+        line-rate-most = priced .rate-most;
       })
 
   -- What the choice of the last join asks.
@@ -76,7 +76,7 @@ module _ (q : Query) (l : Lists) (S : ℕ) (k : Known q l S) where
   site-is t r h more e =
       let v = k .valid in
       e ∙ ap (λ (m : Lists). siteBy m S t) (k .lists-are)
-      ∙ site-chosen q v S (k .subquery) (l .wire-fixed) (l .wire-rate) (k .wires) (startBy own S)
+      ∙ site-chosen q v S (k .subquery) (l .line-fixed) (l .line-rate) (k .carriages) (startBy own S)
       (row-started q v (l .work) (l .ends) (l .sides) (k .masks) S filled-here (k .subquery)) t (omega (arith, v .sites-most)) more
 
 -- One relation: its load, then a send if one is due.
@@ -117,7 +117,7 @@ pub record Parted (q : Query) (l : Lists) (S k e P : ℕ) : Type 0 where
 
 known-part : (q : Query) (l : Lists) (S P : ℕ) → Known q l S → Subquery (q .joins) (relationsOf q) P → Known q l P
 known-part q l S P k s =
-    record { valid = k .valid; lists-are = k .lists-are; masks = k .masks; wires = k .wires; filled = k .filled; subquery = s }
+    record { valid = k .valid; lists-are = k .lists-are; masks = k .masks; carriages = k .carriages; filled = k .filled; subquery = s }
 
 pub parted : (q : Query) (l : Lists) (S k e : ℕ) → ToJoin q l S k → e ≡ joinBy l S k → Parted q l S k e (bitAnd S (getD (l .sides) e 0))
 unfolding writtenJoined joinedSteps

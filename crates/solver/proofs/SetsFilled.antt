@@ -25,11 +25,11 @@ use Rattle.query.specs.declared.Query.{Query}
 use Rattle.query.specs.Choice.{pick}
 use Rattle.query.specs.Query.{Valid, relationsOf, sitesOf, UpTo}
 use Rattle.tables.specs.Tables.{joinsBelow}
-use Rattle.solver.specs.Code.{place, mark, cellOf, sparedAt, lent, baseAt, Joinable, HomeLow, startAt, Marked, Priced, heldAt, Stored, Filled, FilledFrom, MasksOf, WiresOf}
+use Rattle.solver.specs.Code.{place, mark, cellOf, sparedAt, lent, baseAt, Joinable, HomeLow, startAt, Marked, Priced, heldAt, Stored, Filled, FilledFrom, MasksOf, CarriagesOf}
 use Rattle.tables.proofs.Tables.{ones-some}
 use Rattle.solver.proofs.Figures.{place-low, place-apart}
 use Rattle.solver.proofs.Started.{startCost}
-use Rattle.solver.proofs.Wires.{wires-priced}
+use Rattle.solver.proofs.Carriages.{carriages-priced}
 use Rattle.solver.proofs.Columns.{set-low, joinable, home-low, row-started, row-marked, cell-held}
 
 -- What filling has reached when set S is next.
@@ -108,8 +108,8 @@ module _ (q : Query) (v : Valid q) where
   pub charges-here : (S x : ℕ) → x ≡ getD (q .sizes) S 0 → UpTo 1_000_000 (q .sites .fixed) × (UpTo 1_000 (q .sites .rate) × (x ≤ 1_000_000_000))
   charges-here S x e = (v .join-fixed-most, (v .join-rate-most, rw e (v .sizes-most S)))
 
-  pub priced-here : (fixed rate : List ℕ) → WiresOf q fixed rate → (S x : ℕ) → x ≡ getD (q .sizes) S 0 → Priced fixed rate x × UpTo 1_000 (q .sites .rate)
-  priced-here fixed rate wires S x e = (rw e (wires-priced q fixed rate wires v S), v .join-rate-most)
+  pub priced-here : (fixed rate : List ℕ) → CarriagesOf q fixed rate → (S x : ℕ) → x ≡ getD (q .sizes) S 0 → Priced fixed rate x × UpTo 1_000 (q .sites .rate)
+  priced-here fixed rate carriages S x e = (rw e (carriages-priced q fixed rate carriages v S), v .join-rate-most)
 
   -- Nothing is below set 1.
   pub going-start : (work : List ℕ) → 4096 ≤ length work → Going q work work 1 0
@@ -177,18 +177,18 @@ module _ (q : Query) (v : Valid q) where
       -- Its cells from its row.
       module _ (x : ℕ) (size-is : x ≡ getD (q .sizes) S 0) (row : List ℕ)
           (r : Row row (startAt (lent work ends sides) (q .relations .home) (q .sites .may) (baseAt (q .sites .fixed) (q .sites .rate) x) S (q .joins .count)) (sitesOf q))
-          (fixed rate : List ℕ) (wires : WiresOf q fixed rate) where
+          (fixed rate : List ℕ) (carriages : CarriagesOf q fixed rate) where
         row-here : (k : ℕ) → k < sitesOf q → getD row k 0 ≡ mark (startCost q S k)
         row-here k m = r .each k m ∙ rw size-is (row-started q v work ends sides masks S (g .cells) (subquery-here S d test held) k m)
 
         pub marked-here : Marked row (sitesOf q)
-        marked-here = row-marked q v S (subquery-here S d test held) fixed rate wires (λ (k : ℕ). getD row k 0) row-here row (λ k m. refl)
+        marked-here = row-marked q v S (subquery-here S d test held) fixed rate carriages (λ (k : ℕ). getD row k 0) row-here row (λ k m. refl)
 
         pub going-stored : (new : List ℕ) (spared : ℕ) → spared ≡ sparedAt (q .relations .home) (q .relations .index) S →
             Stored work new S (sitesOf q) (heldAt row fixed rate (q .sites .rate) spared x (sitesOf q)) → Going q old new (S + 1) (tried + (ones S - 1))
         going-stored new spared spared-is stored =
             going-on new (heldAt row fixed rate (q .sites .rate) spared x (sitesOf q)) (tried + (ones S - 1)) held stored
-            (λ t m. rw (spared-is, size-is) (cell-held q v S (subquery-here S d test held) fixed rate wires row row-here t (omega (arith, v .sites-most)))) refl
+            (λ t m. rw (spared-is, size-is) (cell-held q v S (subquery-here S d test held) fixed rate carriages row row-here t (omega (arith, v .sites-most)))) refl
 
     -- A subquery has at least one relation, and the joins counted so far are few.
     pub some-relation : d ≡ true → 1 ≤ ones S

@@ -11,7 +11,7 @@ use Rattle.query.specs.Query.{Valid, relationsOf}
 use Rattle.query.specs.Cost.{some}
 use Rattle.tables.specs.Tables.{cheapest}
 use Rattle.tables.specs.Plan.{writtenDelivered, writtenSteps, stepBytes, written}
-use Rattle.solver.specs.Code.{MasksOf, WiresOf, Filled, Wrote, listsOf, ToDeliver}
+use Rattle.solver.specs.Code.{MasksOf, CarriagesOf, Filled, Wrote, listsOf, ToDeliver}
 use Rattle.tables.proofs.Upper.{written-law}
 use Rattle.tables.proofs.Optimum.{plus-combines}
 use Rattle.solver.proofs.SetsFilled.{all-here}
@@ -26,16 +26,16 @@ module _ (q : Query) (v : Valid q) (c : ℕ) (number : cheapest _+_ q ≡ some c
   pub written-most : length (written _+_ q) ≤ 69
   written-most = omega (arith, step-bytes-long (writtenSteps _+_ q), few-steps)
 
-  pub plan-start : (ends sides fixed rate work : List ℕ) (S : ℕ) → MasksOf q ends sides → WiresOf q fixed rate → Filled q work (2 ^ relationsOf q) →
+  pub plan-start : (ends sides fixed rate work : List ℕ) (S : ℕ) → MasksOf q ends sides → CarriagesOf q fixed rate → Filled q work (2 ^ relationsOf q) →
       S ≡ all (q .joins .count + 1) → ToDeliver q (listsOf q ends sides fixed rate work) S (q .target)
-  plan-start ends sides fixed rate work S masks wires filled e =
+  plan-start ends sides fixed rate work S masks carriages filled e =
       subst (λ (X : ℕ). ToDeliver q (listsOf q ends sides fixed rate work) X (q .target)) (sym (all-here q v S e))
       (record {
         known = record {
           valid = v;
           lists-are = refl;
           masks = masks;
-          wires = wires;
+          carriages = carriages;
           filled = filled;
           subquery = subqueries-law (q .joins) (relationsOf q) (v .tree) .whole;
         };

@@ -59,10 +59,10 @@ pub record ChoiceOf (g : ℕ → ℕ) (m : ℕ) (c : Choice) : Type 0 where
 unfoldable pub betterOf : ℕ → ℕ → Choice → Choice
 betterOf new i kept = pick (ltb new (kept .figure)) (record { figure = new; at = i }) kept
 
--- The n entries of a list are g 0, g 1, ..
-pub record Listed (l : List ℕ) (g : ℕ → ℕ) (n : ℕ) : Type 0 where
+-- The first m of n entries are g 0, g 1, ..
+pub record Listed (l : List ℕ) (g : ℕ → ℕ) (n m : ℕ) : Type 0 where
   pub long : length l ≡ n
-  pub each : (i : ℕ) → i < n → getD l i 0 ≡ g i
+  pub each : (i : ℕ) → i < m → getD l i 0 ≡ g i
 
 -- The site where the read of S is spared: the home of a bare relation that has its index, else 8.
 unfoldable pub sparedAt : List ℕ → List ℕ → ℕ → ℕ
@@ -141,11 +141,11 @@ pub record Marked (row : List ℕ) (s : ℕ) : Type 0 where
   pub each : (k : ℕ) → k < s → getD row k 0 ≤ noneMark
 
 -- What line i charges before its rate, and its rate, as the loops take them: nothing from a site to itself, none where the line is closed.
-unfoldable pub wireFixed : (flag fixed : List ℕ) → ℕ → ℕ
-wireFixed flag fixed i = pick (eqb (i / 8) (i % 8)) 0 (pick (eqb (getD flag i 0) 1) (getD fixed i 0) noneMark)
+unfoldable pub carriageFixed : (flag fixed : List ℕ) → ℕ → ℕ
+carriageFixed flag fixed i = pick (eqb (i / 8) (i % 8)) 0 (pick (eqb (getD flag i 0) 1) (getD fixed i 0) noneMark)
 
-unfoldable pub wireRate : (flag rate : List ℕ) → ℕ → ℕ
-wireRate flag rate i = pick (eqb (i / 8) (i % 8)) 0 (pick (eqb (getD flag i 0) 1) (getD rate i 0) 0)
+unfoldable pub carriageRate : (flag rate : List ℕ) → ℕ → ℕ
+carriageRate flag rate i = pick (eqb (i / 8) (i % 8)) 0 (pick (eqb (getD flag i 0) 1) (getD rate i 0) 0)
 
 -- The carriage of a size from site k to site t over lines in that form.
 unfoldable pub carriageAt : (fixed rate : List ℕ) → (size k t : ℕ) → ℕ
@@ -200,9 +200,9 @@ pub record MasksOf (q : Query) (ends sides : List ℕ) : Type 0 where
   pub ends-are : EndsOf (q .joins) ends (q .joins .count)
   pub sides-are : SidesOf (q .joins) sides (q .joins .count)
 
-pub record WiresOf (q : Query) (fixed rate : List ℕ) : Type 0 where
-  pub fixed-are : Listed fixed (wireFixed (q .lines .flag) (q .lines .fixed)) 64
-  pub rate-are : Listed rate (wireRate (q .lines .flag) (q .lines .rate)) 64
+pub record CarriagesOf (q : Query) (fixed rate : List ℕ) : Type 0 where
+  pub fixed-are : Listed fixed (carriageFixed (q .lines .flag) (q .lines .fixed)) 64 64
+  pub rate-are : Listed rate (carriageRate (q .lines .flag) (q .lines .rate)) 64 64
 
 -- Bytes stored one after another from a place on.
 pub record Wrote (old : List ℕ) (at : ℕ) (bytes : List ℕ) (r : ℕ) (new : List ℕ) : Type 0 where
@@ -218,14 +218,14 @@ pub record Lists : Type 0 where
   pub rate : List ℕ
   pub ends : List ℕ
   pub sides : List ℕ
-  pub wire-fixed : List ℕ
-  pub wire-rate : List ℕ
+  pub line-fixed : List ℕ
+  pub line-rate : List ℕ
   pub joins : ℕ
   pub sites : ℕ
   pub work : List ℕ
 
-abbrev pub lists : (home sizes may fixed rate ends sides wire-fixed wire-rate : List ℕ) → (joins sites : ℕ) → (work : List ℕ) → Lists
-lists home sizes may fixed rate ends sides wire-fixed wire-rate joins sites work =
+abbrev pub lists : (home sizes may fixed rate ends sides line-fixed line-rate : List ℕ) → (joins sites : ℕ) → (work : List ℕ) → Lists
+lists home sizes may fixed rate ends sides line-fixed line-rate joins sites work =
     record {
       home = home;
       sizes = sizes;
@@ -234,17 +234,17 @@ lists home sizes may fixed rate ends sides wire-fixed wire-rate joins sites work
       rate = rate;
       ends = ends;
       sides = sides;
-      wire-fixed = wire-fixed;
-      wire-rate = wire-rate;
+      line-fixed = line-fixed;
+      line-rate = line-rate;
       joins = joins;
       sites = sites;
       work = work;
     }
 
 -- A query's own lists, with its masks, its lines as the loops take them, and the work area.
-abbrev pub listsOf : Query → (ends sides wire-fixed wire-rate work : List ℕ) → Lists
-listsOf q ends sides wire-fixed wire-rate work =
-    lists (q .relations .home) (q .sizes) (q .sites .may) (q .sites .fixed) (q .sites .rate) ends sides wire-fixed wire-rate (q .joins .count) (sitesOf q) work
+abbrev pub listsOf : Query → (ends sides line-fixed line-rate work : List ℕ) → Lists
+listsOf q ends sides line-fixed line-rate work =
+    lists (q .relations .home) (q .sizes) (q .sites .may) (q .sites .fixed) (q .sites .rate) ends sides line-fixed line-rate (q .joins .count) (sitesOf q) work
 
 -- What S has cost at k where it can start from there, over lent lists.
 abbrev pub startBy : Lists → ℕ → ℕ → ℕ
@@ -252,7 +252,7 @@ startBy l S k = startAt (lent (l .work) (l .ends) (l .sides)) (l .home) (l .may)
 
 -- The site where S is joined for delivery at t, over lent lists.
 unfoldable pub siteBy : Lists → ℕ → ℕ → ℕ
-siteBy l S t = siteAt (startBy l S) (l .wire-fixed) (l .wire-rate) (getD (l .sizes) S 0) (l .sites) t
+siteBy l S t = siteAt (startBy l S) (l .line-fixed) (l .line-rate) (getD (l .sizes) S 0) (l .sites) t
 
 -- What the choice of a site asks of the lists.
 pub record Choosable (l : Lists) (S : ℕ) : Type 0 where
@@ -261,15 +261,15 @@ pub record Choosable (l : Lists) (S : ℕ) : Type 0 where
   pub sizes-most : UpTo 1_000_000_000 (l .sizes)
   pub fixed-most : UpTo 1_000_000 (l .fixed)
   pub rate-most : UpTo 1_000 (l .rate)
-  pub wire-fixed-most : UpTo noneMark (l .wire-fixed)
-  pub wire-rate-most : UpTo 1_000 (l .wire-rate)
+  pub line-fixed-most : UpTo noneMark (l .line-fixed)
+  pub line-rate-most : UpTo 1_000 (l .line-rate)
 
 -- The lists are those of a valid query q with its cells filled, and S is a subquery of it.
 pub record Known (q : Query) (l : Lists) (S : ℕ) : Type 0 where
   pub valid : Valid q
-  pub lists-are : l ≡ listsOf q (l .ends) (l .sides) (l .wire-fixed) (l .wire-rate) (l .work)
+  pub lists-are : l ≡ listsOf q (l .ends) (l .sides) (l .line-fixed) (l .line-rate) (l .work)
   pub masks : MasksOf q (l .ends) (l .sides)
-  pub wires : WiresOf q (l .wire-fixed) (l .wire-rate)
+  pub carriages : CarriagesOf q (l .line-fixed) (l .line-rate)
   pub filled : Filled q (l .work) (2 ^ relationsOf q)
   pub subquery : Subquery (q .joins) (relationsOf q) S
 

@@ -1,16 +1,16 @@
 // Filling the work area: the cells of every subquery at every site, sets in ascending number.
+use crate::carrying::Carriages;
 use crate::joining::start_row;
 use crate::reading::size_of;
 use crate::reading::spared_at;
 use crate::sending::store;
-use crate::wiring::Wires;
 use query::Query;
 use relations::is_subquery;
 use relations::single;
 ghost use Prim.Native.Nat.{_≤_};
 ghost use lib.ListN.{length};
 ghost use Rattle.query.specs.Query.{Valid};
-ghost use Rattle.solver.specs.Code.{MasksOf, WiresOf, FilledFrom};
+ghost use Rattle.solver.specs.Code.{MasksOf, CarriagesOf, FilledFrom};
 
 // The joins as masks: the two relations of each, and the relations on its first relation's side.
 pub struct Masks {
@@ -19,9 +19,9 @@ pub struct Masks {
 }
 
 // Fills the cells of every subquery, and counts the joins in all of them.
-pub(crate) fn fill(q: Query, masks: Masks, wires: Wires, work: &mut [u64]) -> u64
+pub(crate) fn fill(q: Query, masks: Masks, carriages: Carriages, work: &mut [u64]) -> u64
     requires { ⌜ Valid q × (4096 ≤ length (now work)) ⌝ }
-    requires { ⌜ MasksOf q (masks .ends) (masks .sides) × WiresOf q (wires .fixed) (wires .rate) ⌝ }
+    requires { ⌜ MasksOf q (masks .ends) (masks .sides) × CarriagesOf q (carriages .fixed) (carriages .rate) ⌝ }
     ensures { λ r. ⌜ FilledFrom q (now (work .entry)) (now (work .exit)) r ⌝ }
 {
     let joins = q.joins.count;
@@ -49,8 +49,8 @@ pub(crate) fn fill(q: Query, masks: Masks, wires: Wires, work: &mut [u64]) -> u6
             store(
                 &mut *work,
                 &row,
-                &wires.fixed,
-                &wires.rate,
+                &carriages.fixed,
+                &carriages.rate,
                 &q.sites.rate,
                 spared,
                 size,

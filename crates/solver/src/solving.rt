@@ -1,10 +1,10 @@
 // Solving a query: the cheapest plan, its cost and the trials, or no route.
+use crate::carrying::carried;
 use crate::cells::NONE;
 use crate::cells::place;
 use crate::filling::Masks;
 use crate::filling::fill;
 use crate::reading::last_reading;
-use crate::wiring::wired;
 use crate::writing::write_plan;
 use query::Charge;
 use query::Query;
@@ -43,7 +43,7 @@ pub fn solve(q: Query, work: &mut [u64], plan: &mut [u8]) -> Solved
         ends: ends(q.joins),
         sides: sides(q.joins),
     };
-    let lines = wired(q.lines);
+    let lines = carried(q.lines);
     let joins = fill(q, masks, lines, &mut *work);
     let sites = q.sites.count as u64;
     let trials = sites * joins;

@@ -2,13 +2,13 @@
 // The query is lent list by list: by value it would be copied at each call.
 use crate::bare::home_of;
 use crate::bare::only;
+use crate::carrying::Carriages;
 use crate::filling::Masks;
 use crate::joining::base;
 use crate::joining::best_join;
 use crate::joining::start_row;
 use crate::reading::size_of;
 use crate::sending::best_site;
-use crate::wiring::Wires;
 use query::Query;
 use relations::whole;
 ghost use Prim.Native.Nat.{ℕ, _+_, _^_, _≤_, _<_};
@@ -20,7 +20,7 @@ ghost use Rattle.query.specs.Query.{Valid, relationsOf, UpTo};
 ghost use Rattle.query.specs.Cost.{some};
 ghost use Rattle.tables.specs.Tables.{cheapest};
 ghost use Rattle.tables.specs.Plan.{sendIfDue, writtenDelivered, writtenJoined, stepBytes, written};
-ghost use Rattle.solver.specs.Code.{MasksOf, WiresOf, Filled, Wrote, lent, Joinable, baseAt, joinTrial, placeOf, lists, siteBy, Choosable, ToDeliver, ToJoin};
+ghost use Rattle.solver.specs.Code.{MasksOf, CarriagesOf, Filled, Wrote, lent, Joinable, baseAt, joinTrial, placeOf, lists, siteBy, Choosable, ToDeliver, ToJoin};
 
 // Writes a step: its kind and its argument.
 fn put(out: &mut [u8], at: usize, kind: u8, arg: usize) -> usize
@@ -52,17 +52,17 @@ fn join_site<'a, 'b, 'c>(
     rate: &'a [u64; 8],
     ends: &'b [usize; 8],
     sides: &'b [usize; 8],
-    wfixed: &'c [u64; 64],
-    wrate: &'c [u64; 64],
+    line_fixed: &'c [u64; 64],
+    line_rate: &'c [u64; 64],
     joins: usize,
     sites: usize,
     work: &[u64],
     set: usize,
     t: usize,
 ) -> usize
-    requires { ⌜ Choosable (lists (now home) (now sizes) (now may) (now fixed) (now rate) (now ends) (now sides) (now wfixed) (now wrate) joins sites (now work)) set × (t < 8) ⌝ }
+    requires { ⌜ Choosable (lists (now home) (now sizes) (now may) (now fixed) (now rate) (now ends) (now sides) (now «line_fixed») (now «line_rate») joins sites (now work)) set × (t < 8) ⌝ }
     ensures { λ r.
-        ⌜ r ≡ siteBy (lists (now (home .entry)) (now (sizes .entry)) (now (may .entry)) (now (fixed .entry)) (now (rate .entry)) (now (ends .entry)) (now (sides .entry)) (now (wfixed .entry)) (now (wrate .entry)) joins sites (now (work .entry))) set t ⌝ }
+        ⌜ r ≡ siteBy (lists (now (home .entry)) (now (sizes .entry)) (now (may .entry)) (now (fixed .entry)) (now (rate .entry)) (now (ends .entry)) (now (sides .entry)) (now («line_fixed» .entry)) (now («line_rate» .entry)) joins sites (now (work .entry))) set t ⌝ }
 {
     let size = size_of(sizes, set);
     let row = start_row(
@@ -78,7 +78,7 @@ fn join_site<'a, 'b, 'c>(
         sites,
         set,
     );
-    let best = best_site(&row, wfixed, wrate, size, sites, t);
+    let best = best_site(&row, line_fixed, line_rate, size, sites, t);
     best.at
 }
 
@@ -111,8 +111,8 @@ fn write_delivered<'a, 'b, 'c>(
     rate: &'a [u64; 8],
     ends: &'b [usize; 8],
     sides: &'b [usize; 8],
-    wfixed: &'c [u64; 64],
-    wrate: &'c [u64; 64],
+    line_fixed: &'c [u64; 64],
+    line_rate: &'c [u64; 64],
     joins: usize,
     sites: usize,
     work: &[u64],
@@ -121,9 +121,9 @@ fn write_delivered<'a, 'b, 'c>(
     set: usize,
     t: usize,
 ) -> usize
-    requires { ⌜ ((q : Query) × (ToDeliver q (lists (now home) (now sizes) (now may) (now fixed) (now rate) (now ends) (now sides) (now wfixed) (now wrate) joins sites (now work)) set t × (at + length (stepBytes (writtenDelivered _+_ q set t)) ≤ length (now out)))) ⌝ }
+    requires { ⌜ ((q : Query) × (ToDeliver q (lists (now home) (now sizes) (now may) (now fixed) (now rate) (now ends) (now sides) (now «line_fixed») (now «line_rate») joins sites (now work)) set t × (at + length (stepBytes (writtenDelivered _+_ q set t)) ≤ length (now out)))) ⌝ }
     ensures { λ r.
-        ⌜ ((q : Query) → ToDeliver q (lists (now (home .entry)) (now (sizes .entry)) (now (may .entry)) (now (fixed .entry)) (now (rate .entry)) (now (ends .entry)) (now (sides .entry)) (now (wfixed .entry)) (now (wrate .entry)) joins sites (now (work .entry))) set t →
+        ⌜ ((q : Query) → ToDeliver q (lists (now (home .entry)) (now (sizes .entry)) (now (may .entry)) (now (fixed .entry)) (now (rate .entry)) (now (ends .entry)) (now (sides .entry)) (now («line_fixed» .entry)) (now («line_rate» .entry)) joins sites (now (work .entry))) set t →
         Wrote (now (out .entry)) at (stepBytes (writtenDelivered _+_ q set t)) r (now (out .exit))) ⌝ }
 {
     if usize::count_ones(set) == 1 {
@@ -139,8 +139,8 @@ fn write_delivered<'a, 'b, 'c>(
         rate,
         ends,
         sides,
-        wfixed,
-        wrate,
+        line_fixed,
+        line_rate,
         joins,
         sites,
         work,
@@ -155,8 +155,8 @@ fn write_delivered<'a, 'b, 'c>(
         rate,
         ends,
         sides,
-        wfixed,
-        wrate,
+        line_fixed,
+        line_rate,
         joins,
         sites,
         work,
@@ -177,8 +177,8 @@ fn write_joined<'a, 'b, 'c>(
     rate: &'a [u64; 8],
     ends: &'b [usize; 8],
     sides: &'b [usize; 8],
-    wfixed: &'c [u64; 64],
-    wrate: &'c [u64; 64],
+    line_fixed: &'c [u64; 64],
+    line_rate: &'c [u64; 64],
     joins: usize,
     sites: usize,
     work: &[u64],
@@ -187,9 +187,9 @@ fn write_joined<'a, 'b, 'c>(
     set: usize,
     k: usize,
 ) -> usize
-    requires { ⌜ ((q : Query) × (ToJoin q (lists (now home) (now sizes) (now may) (now fixed) (now rate) (now ends) (now sides) (now wfixed) (now wrate) joins sites (now work)) set k × (at + length (stepBytes (writtenJoined _+_ q set k)) ≤ length (now out)))) ⌝ }
+    requires { ⌜ ((q : Query) × (ToJoin q (lists (now home) (now sizes) (now may) (now fixed) (now rate) (now ends) (now sides) (now «line_fixed») (now «line_rate») joins sites (now work)) set k × (at + length (stepBytes (writtenJoined _+_ q set k)) ≤ length (now out)))) ⌝ }
     ensures { λ r.
-        ⌜ ((q : Query) → ToJoin q (lists (now (home .entry)) (now (sizes .entry)) (now (may .entry)) (now (fixed .entry)) (now (rate .entry)) (now (ends .entry)) (now (sides .entry)) (now (wfixed .entry)) (now (wrate .entry)) joins sites (now (work .entry))) set k →
+        ⌜ ((q : Query) → ToJoin q (lists (now (home .entry)) (now (sizes .entry)) (now (may .entry)) (now (fixed .entry)) (now (rate .entry)) (now (ends .entry)) (now (sides .entry)) (now («line_fixed» .entry)) (now («line_rate» .entry)) joins sites (now (work .entry))) set k →
         Wrote (now (out .entry)) at (stepBytes (writtenJoined _+_ q set k)) r (now (out .exit))) ⌝ }
 {
     let e = last_join(sizes, fixed, rate, ends, sides, joins, work, set, k);
@@ -203,8 +203,8 @@ fn write_joined<'a, 'b, 'c>(
         rate,
         ends,
         sides,
-        wfixed,
-        wrate,
+        line_fixed,
+        line_rate,
         joins,
         sites,
         work,
@@ -221,8 +221,8 @@ fn write_joined<'a, 'b, 'c>(
         rate,
         ends,
         sides,
-        wfixed,
-        wrate,
+        line_fixed,
+        line_rate,
         joins,
         sites,
         work,
@@ -238,12 +238,12 @@ fn write_joined<'a, 'b, 'c>(
 pub(crate) fn write_plan(
     q: Query,
     masks: Masks,
-    wires: Wires,
+    carriages: Carriages,
     work: &[u64],
     out: &mut [u8],
 ) -> usize
     requires { ⌜ Valid q × Filled q (now work) (2 ^ relationsOf q) ⌝ }
-    requires { ⌜ MasksOf q (masks .ends) (masks .sides) × WiresOf q (wires .fixed) (wires .rate) ⌝ }
+    requires { ⌜ MasksOf q (masks .ends) (masks .sides) × CarriagesOf q (carriages .fixed) (carriages .rate) ⌝ }
     requires { ⌜ ((c : ℕ) × (cheapest _+_ q ≡ some c)) × (69 ≤ length (now out)) ⌝ }
     ensures { λ r. ⌜ (r ≡ length (written _+_ q)) × (now (out .exit) ≡ written _+_ q ++ drop (length (written _+_ q)) (now (out .entry))) ⌝ }
 {
@@ -256,8 +256,8 @@ pub(crate) fn write_plan(
         &q.sites.rate,
         &masks.ends,
         &masks.sides,
-        &wires.fixed,
-        &wires.rate,
+        &carriages.fixed,
+        &carriages.rate,
         q.joins.count,
         q.sites.count,
         work,

@@ -11,10 +11,10 @@ use Rattle.solver.proofs.filling.fill.Statement.{statement}
 use Rattle.solver.proofs.filling.fill.Tie as tie
 
 abbrev Inv-loop : tie.InvT-loop
-Inv-loop work₀ q masks wires joins sites end tried₀ set₀ work tried set = (set ≤ end) × ((0 < set) × (EndOf q end × Going q work₀ work set tried))
+Inv-loop work₀ q masks carriages joins sites end tried₀ set₀ work tried set = (set ≤ end) × ((0 < set) × (EndOf q end × Going q work₀ work set tried))
 
 abbrev μ-loop : tie.MeasureT-loop
-μ-loop work₀ q masks wires joins sites end tried₀ set₀ work tried set = end - set
+μ-loop work₀ q masks carriages joins sites end tried₀ set₀ work tried set = end - set
 
 -- A turn of the loop: the query is valid, its sets end where they should, and so far every smaller subquery is filled.
 abbrev Turn : Type 0

@@ -23,7 +23,7 @@ solve-spec =
     (λ c. search needs)
     (λ c κs. search needs)
     (λ c. cheapest-number _ (c .before .before .before .before .before .before .before .before .before .before .before .before .before .before .before .pre .0) _ (c .before .before .before .before .whole .ensures) _ _ _ _ (c .before .before .before .before .before .before .before .before .fill .ensures) (c .before .before .before .place .ensures .0) _ (c .last-reading .ensures) (c .before .if1 .taken) .0)
-    (λ c κs. let s = c .before .before .before .before .before .before .before .before .before .before .before .before .before .before .before .before .before in let v = s .pre .0 in let f = c .before .before .before .before .before .before .before .before .before .before .fill .ensures in let w = c .before .before .before .before .before .before .before .before .before .before .before .before .wired .ensures in
+    (λ c κs. let s = c .before .before .before .before .before .before .before .before .before .before .before .before .before .before .before .before .before in let v = s .pre .0 in let f = c .before .before .before .before .before .before .before .before .before .before .fill .ensures in let w = c .before .before .before .before .before .before .before .before .before .before .before .before .carried .ensures in
     ((v, f .cells), ((record { ends-are = c .before .before .before .before .before .before .before .before .before .before .before .before .before .before .ends .ensures; sides-are = c .before .before .before .before .before .before .before .before .before .before .before .before .before .sides .ensures }, record { fixed-are = w .0; rate-are = w .1 }), ((_, cheapest-number _ v _ (c .before .before .before .before .before .before .whole .ensures) _ _ _ _ f (c .before .before .before .before .before .place .ensures .0) _ (c .before .before .last-reading .ensures) (c .before .before .before .if1 .taken) .1), s .pre .1 .1))))
     (λ c. search needs)
     (λ c. search needs)

@@ -96,7 +96,7 @@ More t = write-delivered-lts.After-join-site (delivered-claims t) (write-deliver
 abbrev delivered-lists : (t : ℕ) → Delivered t → Lists
 delivered-lists t s =
     let a = s .args in
-    lists (a .home .now) (a .sizes .now) (a .may .now) (a .fixed .now) (a .rate .now) (a .ends .now) (a .sides .now) (a .wfixed .now) (a .wrate .now) (a .joins) (a .sites) (a .work .now)
+    lists (a .home .now) (a .sizes .now) (a .may .now) (a .fixed .now) (a .rate .now) (a .ends .now) (a .sides .now) (a .line-fixed .now) (a .line-rate .now) (a .joins) (a .sites) (a .work .now)
 
 abbrev Deliverable : (t : ℕ) → Delivered t → Query → Type 0
 Deliverable t s q = ToDeliver q (delivered-lists t s) (s .args .set) (s .args .t)
@@ -144,7 +144,7 @@ Chosen t = write-joined-lts.After-last-join (joined-claims t) (write-joined-at t
 abbrev joined-lists : (t : ℕ) → Joined t → Lists
 joined-lists t s =
     let a = s .args in
-    lists (a .home .now) (a .sizes .now) (a .may .now) (a .fixed .now) (a .rate .now) (a .ends .now) (a .sides .now) (a .wfixed .now) (a .wrate .now) (a .joins) (a .sites) (a .work .now)
+    lists (a .home .now) (a .sizes .now) (a .may .now) (a .fixed .now) (a .rate .now) (a .ends .now) (a .sides .now) (a .line-fixed .now) (a .line-rate .now) (a .joins) (a .sites) (a .work .now)
 
 abbrev asked : (t : ℕ) → Chosen t → Joined t
 asked t c = c .before .before .before

@@ -13,6 +13,6 @@ join-site-spec =
     ((p .joinable, p .home-low), (p .fixed-most, (p .rate-most, rw (c .size-of .ensures) (p .sizes-most (s .args .set))))))
     (λ c κs. let s = c .before .before .before .before in let p = s .pre .0 in let size = c .before .before .size-of .ensures in (
       row-most _ _ _ _ p size (c .before .start-row .ensures),
-      (record { fixed-most = p .wire-fixed-most; rate-most = p .wire-rate-most; size-most = rw size (p .sizes-most (s .args .set)) }, s .pre .1),
+      (record { fixed-most = p .line-fixed-most; rate-most = p .line-rate-most; size-most = rw size (p .sizes-most (s .args .set)) }, s .pre .1),
     ))
     (λ c. site-by _ _ _ _ (c .before .before .before .before .before .pre .0) (c .before .before .before .size-of .ensures) (c .before .before .start-row .ensures) _ _ (c .best-site .ensures)))
