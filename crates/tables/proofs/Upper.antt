@@ -19,10 +19,11 @@ use Rattle.query.specs.declared.Query.{Query}
 use Rattle.query.specs.Cost.{some}
 use Rattle.query.specs.Query.{Valid, relationsOf, sitesOf, mayJoin}
 use Rattle.query.specs.Prices.{joinPrice, indexed}
+use Rattle.rules.specs.declared.Step.{Step}
 use Rattle.rules.specs.declared.Origin.the-variants.{Joined}
 use Rattle.rules.specs.declared.Held.{Held}
 use Rattle.rules.specs.Machine.{Machine, start, Outcome, went, links, spared}
-use Rattle.rules.specs.Plans.{mostSteps, Step, stepsOf, accepted, finish, checked}
+use Rattle.rules.specs.Plans.{mostSteps, stepsOf, accepted, finish, checked}
 use Rattle.rules.proofs.Links.{links-of}
 use Rattle.rules.proofs.Runs.{join-goes, ran-then, ran-one, ran-ends}
 use Rattle.tables.specs.Tables.{firstPart, otherPart, delivered}
