@@ -22,15 +22,16 @@ use Rattle.query.specs.Prices.{joinPrice, indexed}
 use Rattle.rules.specs.declared.Step.{Step}
 use Rattle.rules.specs.declared.Origin.the-variants.{Joined}
 use Rattle.rules.specs.declared.Held.{Held}
+use Rattle.rules.specs.Combine.{Combines}
 use Rattle.rules.specs.Machine.{Machine, start, Outcome, went, links, spared}
-use Rattle.rules.specs.Plans.{mostSteps, stepsOf, accepted, finish, checked}
+use Rattle.rules.specs.Plans.{mostSteps, longestPlan, stepsOf, accepted, finish, checked}
 use Rattle.rules.proofs.Links.{links-of}
 use Rattle.rules.proofs.Runs.{join-goes, ran-then, ran-one, ran-ends}
-use Rattle.tables.specs.Tables.{firstPart, otherPart, delivered}
-use Rattle.tables.specs.Plan.{joinStep, sendIfDue, bestSite, bestJoin, joinedSteps, deliveredSteps, stepsUpTo, writtenDelivered, writtenSteps, stepBytes, planBytes}
+use Rattle.tables.specs.Tables.{firstPart, otherPart, delivered, cheapest}
+use Rattle.tables.specs.Plan.{joinStep, sendIfDue, bestSite, bestJoin, joinedSteps, deliveredSteps, stepsUpTo, writtenDelivered, writtenSteps, stepBytes, planBytes, written}
 use Rattle.tables.specs.Theorems.{WrittenLaw}
 use Rattle.tables.proofs.Tables.{ones-some, ones-most, ByJoin, BySite, joined-found, delivered-found}
-use Rattle.tables.proofs.StepBytes.{step-bytes-long}
+use Rattle.tables.proofs.StepBytes.{step-bytes-long, plan-bytes-most}
 use Rattle.tables.proofs.Sends.{heldAt, Puts, Delivers, more-unindexed, due, delivers-one}
 
 module _ (combine : ℕ → ℕ → ℕ) (q : Query) where
@@ -148,3 +149,7 @@ written-law combine laws q v c e =
     delivers combine q v (relationsOf q) (all (relationsOf q)) (q .target) c whole (ones-most q v (all (relationsOf q)) whole) (v .target-in) e in
     let few : length (writtenSteps combine q) ≤ mostSteps = omega (arith, d .short, ones-ones (relationsOf q), v .relations-most) in
     record { some-step = d .long; few-steps = few; allowed = plan-allowed combine q (writtenSteps combine q) c d few }
+
+-- The written plan fits into the longest one.
+pub written-most : (combine : ℕ → ℕ → ℕ) → Combines combine → (q : Query) → Valid q → (c : ℕ) → cheapest combine q ≡ some c → length (written combine q) ≤ longestPlan
+written-most combine laws q v c e = plan-bytes-most (writtenSteps combine q) (written-law combine laws q v c e .few-steps)
