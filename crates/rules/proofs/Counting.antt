@@ -2,25 +2,22 @@
 -- figure, and a join at most the dearest join to a combination, which is no more than the sum.
 use Prim.Native.Nat.{ℕ, suc, _+_, _-_, _^_, _≤_, _<_}
 use mathlib.Core.Path.{_≡_}
-use mathlib.Core.Bool.{not, _&&_}
-use mathlib.Core.List.{List, [], _∷_}
+use mathlib.Core.List.{List, _∷_}
 use native.Mathlib.Omega.{arith}
 use lib.Count.{ones-le}
 use lib.Pow.{pow-pos, pow-mono, pow-lt}
-use lib.Dec.{eqb, ltb}
-use borrow.Author.Tests.{ltb-true, eqb-true}
 use Rattle.relations.specs.Sets.{bit}
 use Rattle.relations.proofs.Bits.{single-apart}
 use Rattle.relations.proofs.Counts.{ones-more}
 use Rattle.relations.proofs.Unions.{sum-below}
 use Rattle.query.specs.declared.Query.{Query}
-use Rattle.query.specs.Query.{Valid, relationsOf, sitesOf, mayJoin, isOpen}
+use Rattle.query.specs.Query.{Valid, relationsOf}
 use Rattle.query.proofs.Prices.{line-most, join-most}
 use Rattle.rules.specs.declared.Held.{Held}
 use Rattle.rules.specs.Combine.{Combines}
-use Rattle.rules.specs.Machine.{Machine, start, isSent, load, sendTop, send, links, spared, joinTop, join}
+use Rattle.rules.specs.Machine.{bareOf, sentTo, joinOf, Machine, start, spared}
 use Rattle.rules.specs.Code.{Room}
-use Rattle.rules.proofs.Steps.{guarded, step-cases}
+use Rattle.rules.proofs.Steps.{MayLoad, MaySend, MayJoin, Cases, step-case}
 use Rattle.rules.proofs.Invariants.{Holds, Invariant}
 
 -- A set of relations with one more of them.
@@ -44,59 +41,47 @@ wider n n′ i i′ m room l k =
     }
 
 module _ (combine : ℕ → ℕ → ℕ) (laws : Combines combine) (q : Query) (v : Valid q) where
-  load-room : (i r : ℕ) (m : Machine) → Room (relationsOf q) i m → Holds (Room (relationsOf q)) (suc i) (load q r m)
-  unfolding load
-  load-room i r m room =
-      guarded (Holds (Room (relationsOf q)) (suc i)) (ltb r (relationsOf q)) 8 _ tt λ known.
-      guarded (Holds (Room (relationsOf q)) (suc i)) (eqb (bit (m .loaded) r) 0) 9 _ tt λ new.
-      let fresh = eqb-true (bit (m .loaded) r) 0 new in
-      record {
-        in-all = more-below (relationsOf q) (m .loaded) r (room .in-all) (ltb-true r (relationsOf q) known) fresh;
-        parts = omega arith;
-        joins = room .joins;
-        sends = room .sends;
-        held = omega (arith, ones-more (m .loaded) r fresh);
-        steps = omega (arith, ones-more (m .loaded) r fresh);
-        small = omega arith;
-      }
+  rooms : (i : ℕ) → Cases combine q (λ m o p. Room (relationsOf q) i m → Holds (Room (relationsOf q)) (suc i) o)
+  rooms i = record { loads = loaded; sends = sent; joins = made; refuses = λ m k p room. tt }
+    where
+      loaded : (m : Machine) (r : ℕ) → MayLoad q (m .loaded) r → Room (relationsOf q) i m →
+          Room (relationsOf q) (suc i) (record { loaded = m .loaded + 2 ^ r; stack = bareOf q r ∷ m .stack })
+      loaded m r may room =
+          record {
+            in-all = more-below (relationsOf q) (m .loaded) r (room .in-all) (may .known) (may .fresh);
+            parts = omega arith;
+            joins = room .joins;
+            sends = room .sends;
+            held = omega (arith, ones-more (m .loaded) r (may .fresh));
+            steps = omega (arith, ones-more (m .loaded) r (may .fresh));
+            small = omega arith;
+          }
 
-  send-room : (n i t L : ℕ) (hs : List Held) → Room n i (record { loaded = L; stack = hs }) → Holds (Room n) (suc i) (sendTop q t L hs)
-  unfolding sendTop
-  send-room n i t L [] room = tt
-  send-room n i t L (h ∷ hs) room =
-      guarded (Holds (Room n) (suc i)) ((not (eqb (h .site) t) && isOpen q (h .site) t) && not (isSent (h .origin))) 10 _ tt λ allowed.
-      record {
-        in-all = room .in-all;
-        parts = room .parts;
-        joins = room .joins;
-        sends = suc (room .sends);
-        held = room .held;
-        steps = omega arith;
-        small = omega (arith, line-most q v (h .set) (h .site) t);
-      }
+      sent : (L t : ℕ) (h : Held) (hs : List Held) → MaySend q t h → Room (relationsOf q) i (record { loaded = L; stack = h ∷ hs }) →
+          Room (relationsOf q) (suc i) (record { loaded = L; stack = sentTo q t h ∷ hs })
+      sent L t h hs may room =
+          record {
+            in-all = room .in-all;
+            parts = room .parts;
+            joins = room .joins;
+            sends = suc (room .sends);
+            held = room .held;
+            steps = omega arith;
+            small = omega (arith, line-most q v (h .set) (h .site) t);
+          }
 
-  join-room : (n i e L : ℕ) (hs : List Held) → Room n i (record { loaded = L; stack = hs }) → Holds (Room n) (suc i) (joinTop combine q e L hs)
-  unfolding joinTop
-  join-room n i e L [] room = tt
-  join-room n i e L (b ∷ []) room = tt
-  join-room n i e L (b ∷ (a ∷ hs)) room =
-      guarded (Holds (Room n) (suc i)) ((eqb (a .site) (b .site) && mayJoin q (b .site)) && links (q .joins) e (a .set) (b .set)) 11 _ tt λ allowed.
-      record {
-        in-all = room .in-all;
-        parts = omega arith;
-        joins = suc (room .joins);
-        sends = room .sends;
-        held = omega arith;
-        steps = omega arith;
-        small = omega (arith, laws .most (a .figure .0) (b .figure .0), join-most q v (b .site) (spared q a) (a .set) (spared q b) (b .set));
-      }
+      made : (L e : ℕ) (a b : Held) (hs : List Held) → MayJoin q e a b → Room (relationsOf q) i (record { loaded = L; stack = b ∷ (a ∷ hs) }) →
+          Room (relationsOf q) (suc i) (record { loaded = L; stack = joinOf combine q a b ∷ hs })
+      made L e a b hs may room =
+          record {
+            in-all = room .in-all;
+            parts = omega arith;
+            joins = suc (room .joins);
+            sends = room .sends;
+            held = omega arith;
+            steps = omega arith;
+            small = omega (arith, laws .most (a .figure .0) (b .figure .0), join-most q v (b .site) (spared q a) (a .set) (spared q b) (b .set));
+          }
 
   pub step-room : Invariant combine q (Room (relationsOf q))
-  unfolding send join
-  step-room i x m room =
-      step-cases (λ o p. Holds (Room (relationsOf q)) (suc i) o) combine q x m (load-room i (x .arg) m room)
-      (guarded (Holds (Room (relationsOf q)) (suc i)) (ltb (x .arg) (sitesOf q)) 8 _ tt λ known.
-      send-room (relationsOf q) i (x .arg) (m .loaded) (m .stack) room)
-      (guarded (Holds (Room (relationsOf q)) (suc i)) (ltb (x .arg) (relationsOf q - 1)) 8 _ tt λ known.
-      join-room (relationsOf q) i (x .arg) (m .loaded) (m .stack) room)
-      tt
+  step-room i = step-case combine q _ (rooms i)

@@ -25,11 +25,12 @@ use Rattle.rules.specs.declared.Origin.{Origin}
 use Rattle.rules.specs.declared.Origin.the-variants.{Bare, Sent, Joined}
 use Rattle.rules.specs.declared.Held.{Held}
 use Rattle.rules.specs.Combine.{Combines}
-use Rattle.rules.specs.Machine.{isBare, isSent, sentTo, links, spared, joinOf}
+use Rattle.rules.specs.Machine.{bareOf, isBare, isSent, sentTo, links, spared, joinOf}
 use Rattle.rules.specs.Plans.{AllowedAt}
 use Rattle.rules.proofs.Links.{links-means}
+use Rattle.rules.proofs.Steps.{MaySend, MayJoin}
 use Rattle.rules.proofs.Invariants.{Ends}
-use Rattle.rules.proofs.Kept.{bareOf, Keeps, Stacks, allowed-kept}
+use Rattle.rules.proofs.Kept.{Keeps, Stacks, allowed-kept}
 use Rattle.tables.specs.Tables.{only, byJoin, bySite, delivered, joined, cheapest}
 use Rattle.tables.specs.Theorems.{CheapestLaw}
 use Rattle.tables.proofs.Costs.{at-most-is, at-most-more, both-most, plus-most}
@@ -119,25 +120,24 @@ module _ (combine : ℕ → ℕ → ℕ) (laws : Combines combine) (q : Query) (
             bounded = (ones-pow r, ap (home q) (lowest-pow (relationsOf q) r l));
           }
 
-      sent : (t : ℕ) (h : Held) → Fine h → t < sitesOf q → (h .site ≡ t → ⊥) → isOpen q (h .site) t ≡ true → isSent (h .origin) ≡ false → Fine (sentTo q t h)
-      sent t h f l away opened fresh =
+      sent : (t : ℕ) (h : Held) → MaySend q t h → Fine h → Fine (sentTo q t h)
+      sent t h may f =
           record {
             subquery = f .subquery;
-            listed = l;
-            bounded = sends (h .origin) (h .set) (h .site) t (h .figure .0) (f .subquery) (f .listed) away opened fresh (f .bounded);
+            listed = may .listed;
+            bounded = sends (h .origin) (h .set) (h .site) t (h .figure .0) (f .subquery) (f .listed) (may .away) (may .opened) (may .unsent) (f .bounded);
           }
 
       at-site : (h : Held) → Fine h → AtMost (delivered combine q (h .set) (h .site)) (h .figure .0)
       at-site h f = reaches (h .origin) (h .set) (h .site) (h .figure .0) (f .subquery) (f .listed) (f .bounded)
 
-      made : (e : ℕ) (a b : Held) → Fine a → Fine b → Apart (a .set) (b .set) → e < relationsOf q - 1 → a .site ≡ b .site → mayJoin q (b .site) ≡ true →
-          links (q .joins) e (a .set) (b .set) ≡ true → Fine (joinOf combine q a b)
-      made e a b fa fb apart known there may linked =
-          let known′ : e < q .joins .count = omega (arith, v .tree .joins) in
+      made : (e : ℕ) (a b : Held) → MayJoin q e a b → Apart (a .set) (b .set) → Fine a → Fine b → Fine (joinOf combine q a b)
+      made e a b may apart fa fb =
+          let known : e < q .joins .count = omega (arith, v .tree .joins) in
           let both-at =
-          joins-at (a .set) (b .set) e (b .site) (a .figure .0) (b .figure .0) (spared q a) (spared q b) (fa .subquery) (fb .subquery) apart known′ may linked
-          (λ s. subst (λ (k : ℕ). indexed q (a .set) k ≡ true) there (spares a s)) (spares b)
-          (subst (λ (k : ℕ). AtMost (delivered combine q (a .set) k) (a .figure .0)) there (at-site a fa)) (at-site b fb) in
+          joins-at (a .set) (b .set) e (b .site) (a .figure .0) (b .figure .0) (spared q a) (spared q b) (fa .subquery) (fb .subquery) apart known (may .may)
+          (may .linked) (λ s. subst (λ (k : ℕ). indexed q (a .set) k ≡ true) (may .there) (spares a s)) (spares b)
+          (subst (λ (k : ℕ). AtMost (delivered combine q (a .set) k) (a .figure .0)) (may .there) (at-site a fa)) (at-site b fb) in
           record {
             subquery = both-at .0;
             listed = fb .listed;

@@ -49,7 +49,8 @@ module _ (combine : ℕ → ℕ → ℕ) (q : Query) where
       ran-then combine q xs (ys ++ (joinStep e ∷ [])) m first-on (one .puts m free-first)
       ∙ ran-then combine q ys (joinStep e ∷ []) first-on both-on (other .puts first-on free-second)
       ∙ ran-one combine q (joinStep e) both-on _
-      (join-goes combine q e (m .loaded + P + R) (heldAt P k (one .origin) x) (heldAt R k (other .origin) y) (m .stack) known refl may linked)
+      (join-goes combine q e (m .loaded + P + R) (heldAt P k (one .origin) x) (heldAt R k (other .origin) y) (m .stack)
+      (record { known = known; there = refl; may = may; linked = linked }))
       ∙ ends-same k x y P R _ _ _ _ _ _ S (m .stack) (one .reads) (other .reads) whole (omega arith)
     where
       first-on : Machine
