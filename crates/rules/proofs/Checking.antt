@@ -37,23 +37,20 @@ module _ (q : Query) (i : ℕ) (o : Verdict) where
   finish-other a (suc zero) h e = absurd (h refl)
   finish-other a (suc (suc d)) h e = e
 
-  pub finish-part : (s a : List Held) (d e w : ℕ) (h : Held) → s ≡ h ∷ topFirst a d → d + 1 ≡ e → e ≡ 1 → w ≡ all (relationsOf q) → (h .set ≡ w → ⊥) →
-      o ≡ rejected 12 i → o ≡ finish q i s
-  unfolding finish
-  finish-part s a d e w h f p one every less r =
-      r ∙ rw (alone s a d e h f p one, ne-eqb (h .set) (all (relationsOf q)) (λ x. less (x ∙ sym every)))
+  module _ (s a : List Held) (d e w : ℕ) (h : Held) (f : s ≡ h ∷ topFirst a d) (p : d + 1 ≡ e) (one : e ≡ 1) (every : w ≡ all (relationsOf q)) where
+    pub finish-part : (h .set ≡ w → ⊥) → o ≡ rejected 12 i → o ≡ finish q i s
+    unfolding finish
+    finish-part less r = r ∙ rw (alone s a d e h f p one, ne-eqb (h .set) (all (relationsOf q)) (λ x. less (x ∙ sym every)))
 
-  pub finish-away : (s a : List Held) (d e w : ℕ) (h : Held) → s ≡ h ∷ topFirst a d → d + 1 ≡ e → e ≡ 1 → w ≡ all (relationsOf q) → h .set ≡ w →
-      (h .site ≡ q .target → ⊥) → o ≡ rejected 12 i → o ≡ finish q i s
-  unfolding finish
-  finish-away s a d e w h f p one every full away r =
-      r ∙ rw (alone s a d e h f p one, eq-eqb (h .set) (all (relationsOf q)) (full ∙ every), ne-eqb (h .site) (q .target) away)
+    pub finish-away : h .set ≡ w → (h .site ≡ q .target → ⊥) → o ≡ rejected 12 i → o ≡ finish q i s
+    unfolding finish
+    finish-away full away r =
+        r ∙ rw (alone s a d e h f p one, eq-eqb (h .set) (all (relationsOf q)) (full ∙ every), ne-eqb (h .site) (q .target) away)
 
-pub finish-there : (q : Query) (i : ℕ) (s a : List Held) (d e w : ℕ) (h : Held) → s ≡ h ∷ topFirst a d → d + 1 ≡ e → e ≡ 1 → w ≡ all (relationsOf q) →
-    h .set ≡ w → h .site ≡ q .target → accepted (h .figure .0) ≡ finish q i s
-unfolding finish
-finish-there q i s a d e w h f p one every full there =
-    rw (alone s a d e h f p one, eq-eqb (h .set) (all (relationsOf q)) (full ∙ every), eq-eqb (h .site) (q .target) there)
+    pub finish-there : h .set ≡ w → h .site ≡ q .target → o ≡ accepted (h .figure .0) → o ≡ finish q i s
+    unfolding finish
+    finish-there full there r =
+        r ∙ rw (alone s a d e h f p one, eq-eqb (h .set) (all (relationsOf q)) (full ∙ every), eq-eqb (h .site) (q .target) there)
 
 -- The end condition looks at the number of relations and the query site alone.
 finish-same : (q : Query) (i : ℕ) (s : List Held) → finish (ofEnd (relationsOf q) (q .target)) i s ≡ finish q i s

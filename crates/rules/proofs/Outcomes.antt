@@ -33,10 +33,11 @@ module _ (q : Query) (r : ℕ) (m : Machine) (o : Outcome) where
   unfolding load
   load-goes v w s h b z k f e = e ∙ rw (f, k, lt-ltb r (relationsOf q) h, eq-eqb (bit (m .loaded) r) 0 (sym b ∙ z))
 
--- A send.
-pub sendable-is : (x s s′ : Bool) (v w : ℕ) → v ≡ w → s ≡ s′ → ((x && eqb v 1) && not s) ≡ ((x && eqb w 1) && not s′)
-sendable-is x s s′ v w e f = rw (e, f)
+-- The tests of a send and of a join: the sites, a flag, and the results.
+pub allowed-is : (x y z : Bool) (v w : ℕ) → v ≡ w → y ≡ z → ((x && eqb v 1) && y) ≡ ((x && eqb w 1) && z)
+allowed-is x y z v w e f = rw (e, f)
 
+-- A send.
 module _ (q : Query) (t L : ℕ) (o : Outcome) where
   pub send-unknown : (s : List Held) → sitesOf q ≤ t → o ≡ refused 8 → o ≡ send q t (record { loaded = L; stack = s })
   unfolding send
@@ -62,9 +63,6 @@ module _ (q : Query) (t L : ℕ) (o : Outcome) where
   send-goes s hs s′ h g b l f may good made f′ e = e ∙ rw (f′, made, f, lt-ltb t (sitesOf q) l, sym may ∙ good)
 
 -- A join.
-pub joinable-is : (x l l′ : Bool) (v w : ℕ) → v ≡ w → l ≡ l′ → ((x && eqb v 1) && l) ≡ ((x && eqb w 1) && l′)
-joinable-is x l l′ v w e f = rw (e, f)
-
 pub links-is : (J : Joins) (e P R a b c d : ℕ) → a ≡ bit P (first J e) → b ≡ bit R (second J e) → c ≡ bit P (second J e) → d ≡ bit R (first J e) →
     (eqb (a + b) 2 || eqb (c + d) 2) ≡ links J e P R
 unfolding links

@@ -4,11 +4,10 @@ use Prim.Native.Nat.{ℕ, _+_, _-_, _≤_, _<_, zero-le}
 use mathlib.Core.Path.{_≡_, ap, subst, _∙_}
 use mathlib.Core.Bool.{Bool, true, false}
 use mathlib.Core.Logic.{_⊎_, inl, inr}
-use mathlib.Core.List.{List}
 use lib.Count.{ones}
 use native.Mathlib.Nat.{le-refl, add-comm}
 use native.Mathlib.Omega.{arith}
-use Rattle.relations.specs.Sets.{bit, Apart, all}
+use Rattle.relations.specs.Sets.{bit, Apart}
 use Rattle.relations.specs.Growth.{first, second}
 use Rattle.relations.specs.Trees.{Subquery}
 use Rattle.relations.specs.Theorems.{Union}
@@ -26,12 +25,11 @@ use Rattle.rules.specs.declared.Origin.the-variants.{Bare, Sent, Joined}
 use Rattle.rules.specs.declared.Held.{Held}
 use Rattle.rules.specs.Combine.{Combines}
 use Rattle.rules.specs.Machine.{bareOf, isBare, isSent, sentTo, links, spared, joinOf}
-use Rattle.rules.specs.Plans.{AllowedAt}
 use Rattle.rules.proofs.Links.{links-means}
 use Rattle.rules.proofs.Steps.{MaySend, MayJoin}
 use Rattle.rules.proofs.Invariants.{Ends}
 use Rattle.rules.proofs.Kept.{Keeps, Stacks, allowed-kept}
-use Rattle.tables.specs.Tables.{only, byJoin, bySite, delivered, joined, cheapest}
+use Rattle.tables.specs.Tables.{only, byJoin, bySite, delivered, joined}
 use Rattle.tables.specs.Theorems.{CheapestLaw}
 use Rattle.tables.proofs.Costs.{at-most-is, at-most-more, both-most, plus-most}
 use Rattle.tables.proofs.Tables.{ones-some, delivered-one, delivered-within, joined-within}
@@ -58,6 +56,9 @@ module _ (combine : ℕ → ℕ → ℕ) (laws : Combines combine) (q : Query) (
       delivered-within combine q v S k k x s more l
       (at-most-more (bySite (joined combine q S) q S k k) (x + 0) x (omega arith)
       (plus-most (joined combine q S k) (carriage q S k k) x 0 b (at-most-is (carriage q S k k) 0 0 (carriage-stays q S k) zero-le)))
+
+  at-site : (h : Held) → Fine h → AtMost (delivered combine q (h .set) (h .site)) (h .figure .0)
+  at-site h f = reaches (h .origin) (h .set) (h .site) (h .figure .0) (f .subquery) (f .listed) (f .bounded)
 
   -- A send adds the price of its line.
   sends : (o : Origin) (S k t x : ℕ) → Subquery (q .joins) (relationsOf q) S → k < sitesOf q → (k ≡ t → ⊥) → isOpen q k t ≡ true → isSent o ≡ false →
@@ -128,9 +129,6 @@ module _ (combine : ℕ → ℕ → ℕ) (laws : Combines combine) (q : Query) (
             bounded = sends (h .origin) (h .set) (h .site) t (h .figure .0) (f .subquery) (f .listed) (may .away) (may .opened) (may .unsent) (f .bounded);
           }
 
-      at-site : (h : Held) → Fine h → AtMost (delivered combine q (h .set) (h .site)) (h .figure .0)
-      at-site h f = reaches (h .origin) (h .set) (h .site) (h .figure .0) (f .subquery) (f .listed) (f .bounded)
-
       made : (e : ℕ) (a b : Held) → MayJoin q e a b → Apart (a .set) (b .set) → Fine a → Fine b → Fine (joinOf combine q a b)
       made e a b may apart fa fb =
           let known : e < q .joins .count = omega (arith, v .tree .joins) in
@@ -144,16 +142,7 @@ module _ (combine : ℕ → ℕ → ℕ) (laws : Combines combine) (q : Query) (
             bounded = (both-at .1, omega (arith, ones-add (a .set) (b .set) apart, ones-some q v (a .set) (fa .subquery), ones-some q v (b .set) (fb .subquery)));
           }
 
-  lower : (plan : List ℕ) (c : ℕ) → AllowedAt combine q plan c → AtMost (cheapest combine q) c
-  lower plan c allowed =
-      let end : Ends q (Stacks Fine) c = allowed-kept combine q Fine fine plan c allowed in
-      let h : Held = end .held in
-      let f : Fine h = end .kept .1 in
-      let bound = reaches (h .origin) (h .set) (h .site) (h .figure .0) (f .subquery) (f .listed) (f .bounded) in
-      at-end (h .set) (h .site) (h .figure .0) (end .whole) (end .delivered) (end .figure) bound
-    where
-      at-end : (S t x : ℕ) → S ≡ all (relationsOf q) → t ≡ q .target → x ≡ c → AtMost (delivered combine q S t) x → AtMost (cheapest combine q) c
-      at-end S t x a b e h = rw (a, b, e) at h
-
 pub cheapest-law : CheapestLaw
-cheapest-law combine laws q v plan c allowed = lower combine laws q v plan c allowed
+cheapest-law combine laws q v plan c allowed =
+    let end : Ends q (Stacks (Fine combine laws q v)) c = allowed-kept combine q _ (fine combine laws q v) plan c allowed in
+    rw (end .whole, end .delivered, end .figure) at (at-site combine laws q v (end .held) (end .kept .1))

@@ -4,7 +4,7 @@ use native.Mathlib.Omega.{arith}
 use mathlib.Core.Path.{_≡_, refl, ap}
 use mathlib.Core.List.{List, [], _∷_, _++_}
 use lib.ListN.{length}
-use Rattle.rules.specs.Plans.{mostSteps, longestPlan}
+use Rattle.rules.specs.Plans.{mostSteps, longestPlan, stepsOf}
 use Rattle.tables.specs.Plan.{stepBytes, planBytes}
 use Rattle.rules.specs.declared.Step.{Step}
 
@@ -19,3 +19,8 @@ step-bytes-long (x ∷ xs) = omega (arith, step-bytes-long xs)
 -- A plan of at most `mostSteps` steps has at most `longestPlan` bytes.
 pub plan-bytes-most : (xs : List Step) → length xs ≤ mostSteps → length (planBytes xs) ≤ longestPlan
 plan-bytes-most xs few = omega (arith, step-bytes-long xs)
+
+-- A plan's bytes are read back as its steps.
+pub steps-back : (xs : List Step) → stepsOf (stepBytes xs) ≡ xs
+steps-back [] = refl
+steps-back (x ∷ xs) = rw (steps-back xs)

@@ -24,14 +24,14 @@ use Rattle.rules.specs.declared.Origin.the-variants.{Joined}
 use Rattle.rules.specs.declared.Held.{Held}
 use Rattle.rules.specs.Combine.{Combines}
 use Rattle.rules.specs.Machine.{Machine, start, Outcome, went, links, spared}
-use Rattle.rules.specs.Plans.{mostSteps, longestPlan, stepsOf, accepted, finish, checked}
+use Rattle.rules.specs.Plans.{mostSteps, longestPlan, accepted, finish, checked}
 use Rattle.rules.proofs.Links.{links-of}
 use Rattle.rules.proofs.Runs.{join-goes, ran-then, ran-one, ran-ends}
 use Rattle.tables.specs.Tables.{firstPart, otherPart, delivered, cheapest}
 use Rattle.tables.specs.Plan.{joinStep, sendIfDue, bestSite, bestJoin, joinedSteps, deliveredSteps, stepsUpTo, writtenDelivered, writtenSteps, stepBytes, planBytes, written}
 use Rattle.tables.specs.Theorems.{WrittenLaw}
 use Rattle.tables.proofs.Tables.{ones-some, ones-most, ByJoin, BySite, joined-found, delivered-found}
-use Rattle.tables.proofs.StepBytes.{step-bytes-long, plan-bytes-most}
+use Rattle.tables.proofs.StepBytes.{step-bytes-long, plan-bytes-most, steps-back}
 use Rattle.tables.proofs.Sends.{heldAt, Puts, Delivers, more-unindexed, due, delivers-one}
 
 module _ (combine : ℕ → ℕ → ℕ) (q : Query) where
@@ -127,11 +127,6 @@ module _ (combine : ℕ → ℕ → ℕ) (q : Query) where
           Delivers combine q (deliveredSteps combine (joinedSteps combine (stepsUpTo combine q f) q S) q S t) S t c
       go (inl one) fewer = rw (eq-eqb (ones S) 1 (sym one)) (delivers-one combine q v S t c s (sym one) listed e)
       go (inr more) fewer = rw (ne-eqb (ones S) 1 (λ h. omega arith)) (delivers-more v (stepsUpTo combine q f) S t c s more listed e fewer)
-
--- A plan's bytes are read back as its steps.
-steps-back : (xs : List Step) → stepsOf (stepBytes xs) ≡ xs
-steps-back [] = refl
-steps-back (x ∷ xs) = rw (steps-back xs)
 
 -- Steps that put every relation at the query site make an allowed plan.
 plan-allowed : (combine : ℕ → ℕ → ℕ) (q : Query) (xs : List Step) (c : ℕ) → Delivers combine q xs (all (relationsOf q)) (q .target) c → length xs ≤ mostSteps →
