@@ -29,9 +29,12 @@ reads a x b y = read a x + read b y
 unfoldable pub joinPrice : Query → ℕ → Bool → ℕ → Bool → ℕ → ℕ
 joinPrice q k a P b R = joinFixed q k + joinRate q k * (reads a (size q P) b (size q R) + size q (P + R))
 
--- What a line and a join cost at most: each amount at document 01's limit.
+-- What a line, a carriage and a join cost at most, each amount at document 01's limit. A carriage takes one line.
 abbrev pub dearestLine : ℕ
 dearestLine = 1_000_001_000_000
+
+abbrev pub dearestCarriage : ℕ
+dearestCarriage = dearestLine
 
 abbrev pub dearestJoin : ℕ
 dearestJoin = 3_000_001_000_000

@@ -1,6 +1,6 @@
 -- The figure at which a plan is accepted is the sum over its sends and joins: each step adds its own price to the sum of the held figures,
 -- and at the end one result is held.
-use Prim.Native.Nat.{ℕ, suc, _+_, _*_, _-_}
+use Prim.Native.Nat.{ℕ, suc, _+_, _*_}
 use mathlib.Core.Path.{_≡_}
 use mathlib.Core.Bool.{Bool, true, false, _&&_}
 use mathlib.Core.List.{List, [], _∷_}

@@ -1,6 +1,6 @@
 -- A run keeps count of its steps and with it its room: a load brings a relation that was not loaded, a send adds at most the dearest line to a
 -- figure, and a join at most the dearest join to a combination, which is no more than the sum.
-use Prim.Native.Nat.{ℕ, suc, _+_, _-_, _^_, _≤_, _<_}
+use Prim.Native.Nat.{ℕ, suc, _+_, _^_, _≤_, _<_}
 use mathlib.Core.Path.{_≡_}
 use mathlib.Core.List.{List, _∷_}
 use native.Mathlib.Omega.{arith}
@@ -25,7 +25,9 @@ pub more-below : (n S r : ℕ) → S < 2 ^ n → r < n → bit S r ≡ 0 → S +
 more-below n S r h l fresh = sum-below S (2 ^ r) n (single-apart S r fresh) h (pow-lt l)
 
 pub start-room : (n : ℕ) → Room n 0 start
-start-room n = record { in-all = pow-pos n; parts = omega arith; joins = 0; sends = 0; held = omega (arith, ones-le 0 0 (pow-pos 0)); steps = omega (arith, ones-le 0 0 (pow-pos 0)); small = omega arith }
+start-room n =
+    let none = ones-le 0 0 (pow-pos 0) in
+    record { in-all = pow-pos n; parts = omega arith; joins = 0; sends = 0; held = omega arith; steps = omega arith; small = omega arith }
 
 -- Room for some relations and steps is room for more.
 pub wider : (n n′ i i′ : ℕ) (m : Machine) → Room n i m → n ≤ n′ → i ≤ i′ → Room n′ i′ m

@@ -1,6 +1,6 @@
 -- What loads, sends and joins keep of each held result holds of the result that an allowed plan ends with.
 -- The held sets are disjoint and make up what is loaded, so the two operands of a join share no relation.
-use Prim.Native.Nat.{ℕ, suc, _+_, _-_, _^_, _<_}
+use Prim.Native.Nat.{ℕ, suc, _+_, _^_, _<_}
 use mathlib.Core.Path.{_≡_, refl}
 use mathlib.Core.List.{List, [], _∷_}
 use native.Mathlib.Omega.{arith}

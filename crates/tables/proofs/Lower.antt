@@ -1,6 +1,6 @@
 -- No allowed plan is cheaper than the tables. Each held result of a plan has cost at least its table: Delivered for a sent result, Joined for
 -- a joined one, nothing for a bare relation. A join's operands are the parts of their union, so Joined has that join among its candidates.
-use Prim.Native.Nat.{ℕ, _+_, _-_, _≤_, _<_, zero-le}
+use Prim.Native.Nat.{ℕ, _+_, _≤_, _<_, zero-le}
 use mathlib.Core.Path.{_≡_, ap, subst, _∙_}
 use mathlib.Core.Bool.{Bool, true, false}
 use mathlib.Core.Logic.{_⊎_, inl, inr}

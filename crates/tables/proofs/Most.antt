@@ -10,7 +10,7 @@ use Rattle.relations.specs.Trees.{Subquery}
 use Rattle.query.specs.declared.Query.{Query}
 use Rattle.query.specs.Cost.{some}
 use Rattle.query.specs.Query.{Valid, relationsOf, home}
-use Rattle.query.specs.Prices.{dearestLine, dearestJoin, indexed}
+use Rattle.query.specs.Prices.{dearestCarriage, dearestJoin, indexed}
 use Rattle.query.proofs.Prices.{join-most, carriage-most}
 use Rattle.rules.specs.Combine.{Combines}
 use Rattle.rules.specs.Code.{Room}
@@ -29,16 +29,16 @@ plan-most combine laws q v plan c allowed =
 
 -- c is a figure of k relations, with carriages of at most y beyond those of the joins' operands, said without a difference.
 abbrev Below : ℕ → ℕ → ℕ → Type 0
-Below c k y = c + (dearestJoin + 2 * dearestLine) ≤ k * (dearestJoin + 2 * dearestLine) + y
+Below c k y = c + (dearestJoin + 2 * dearestCarriage) ≤ k * (dearestJoin + 2 * dearestCarriage) + y
 
-below-nine : (c k y : ℕ) → k ≤ 9 → y ≤ dearestLine → Below c k y → c ≤ mostCost
+below-nine : (c k y : ℕ) → k ≤ 9 → y ≤ dearestCarriage → Below c k y → c ≤ mostCost
 below-nine c k y nine l h = omega arith
 
 module _ (combine : ℕ → ℕ → ℕ) (laws : Combines combine) (q : Query) (v : Valid q) where
   -- Every number of Delivered for fewer relations than S has is below.
   abbrev FewerBelow : ℕ → Type 0
   FewerBelow S =
-      (P k x : ℕ) → Subquery (q .joins) (relationsOf q) P → ones P < ones S → delivered combine q P k ≡ some x → Below x (ones P) dearestLine
+      (P k x : ℕ) → Subquery (q .joins) (relationsOf q) P → ones P < ones S → delivered combine q P k ≡ some x → Below x (ones P) dearestCarriage
 
   -- Two results, each perhaps carried, and their join.
   joined-below : (S k c : ℕ) → Subquery (q .joins) (relationsOf q) S → joined combine q S k ≡ some c → FewerBelow S → Below c (ones S) 0
@@ -57,12 +57,12 @@ module _ (combine : ℕ → ℕ → ℕ) (laws : Combines combine) (q : Query) (
         join-most q v k (indexed q P k) P (indexed q R k) R,
       )
 
-  delivered-below : (f S t c : ℕ) → Subquery (q .joins) (relationsOf q) S → ones S ≤ f → delivered combine q S t ≡ some c → Below c (ones S) dearestLine
+  delivered-below : (f S t c : ℕ) → Subquery (q .joins) (relationsOf q) S → ones S ≤ f → delivered combine q S t ≡ some c → Below c (ones S) dearestCarriage
   delivered-below zero S t c s l number = absurd (omega (arith, ones-some q v S s))
   delivered-below (suc f) S t c s l number =
       go (eq-or-lt-of-le (ones-some q v S s)) (λ P k x p fewer h. delivered-below f P k x p (omega arith) h)
     where
-      go : (1 ≡ ones S) ⊎ (1 < ones S) → FewerBelow S → Below c (ones S) dearestLine
+      go : (1 ≡ ones S) ⊎ (1 < ones S) → FewerBelow S → Below c (ones S) dearestCarriage
       go (inl one) fewer =
           omega (arith, carriage-most q v S (home q (only q S)) t c (sym (delivered-one combine q v S t s (sym one)) ∙ number))
       go (inr more) fewer =
@@ -72,7 +72,7 @@ module _ (combine : ℕ → ℕ → ℕ) (laws : Combines combine) (q : Query) (
 
 pub delivered-most : MostLaw
 delivered-most combine laws q v S t c s e =
-    below-nine c (ones S) dearestLine (omega (arith, ones-most q v S s, v .relations-most)) (le-refl _) (delivered-below combine laws q v (ones S) S t c s (le-refl _) e)
+    below-nine c (ones S) dearestCarriage (omega (arith, ones-most q v S s, v .relations-most)) (le-refl _) (delivered-below combine laws q v (ones S) S t c s (le-refl _) e)
 
 -- Nor is Joined's.
 pub joined-most : (combine : ℕ → ℕ → ℕ) → Combines combine → (q : Query) → Valid q → (S k c : ℕ) → Subquery (q .joins) (relationsOf q) S →
