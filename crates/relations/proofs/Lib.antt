@@ -1,3 +1,4 @@
+pub mod Listed
 pub mod Turns
 pub mod Following
 pub mod Drawing

@@ -5,37 +5,20 @@ use mathlib.Core.Bool.{Bool, true, false, _&&_}
 use mathlib.Core.List.{List}
 use native.Mathlib.Numerals.{add-one}
 use native.Mathlib.Omega.{arith}
-use borrow.Author.Count.{below-none, below-more}
 use borrow.Author.Tests.{eqb-true, eqb-false, eq-eqb, ne-eqb}
 use lib.Bits.{bitAnd}
 use lib.Count.{ones}
 use lib.Dec.{eqb, ltb}
-use lib.ListN.{length, getD, set, length-set}
+use lib.ListN.{getD}
 use lib.Pow.{pow-mono}
-use lib.Seq.{getD-set-same, getD-set-other}
 use Rattle.relations.specs.declared.Joins.{Joins}
 use Rattle.relations.specs.Sets.{bit, put, Sub}
 use Rattle.relations.specs.Growth.{first, second, inside}
 use Rattle.relations.specs.Trees.{isSubquery, countBelow, subqueries, joinsIn, Tree}
-use Rattle.relations.specs.Code.{endsOf, tally, wholeIn, subqueryBy, endsBelow, Drawn, Row, EndsOf}
+use Rattle.relations.specs.Code.{endsOf, tally, wholeIn, subqueryBy, endsBelow, Drawn, EndsOf}
 use Rattle.relations.proofs.Bits.{bit-le, bit-and, and-of-sub, bit-pow, bit-put, sub-single}
+use Rattle.relations.proofs.Listed.{listed-done}
 use Rattle.relations.proofs.SubqueryCount.{subquery-by-count}
-
--- A list that has g at the places below k, with g stored at k.
-pub set-next :
-    (l : List ℕ) (g : ℕ → ℕ) (k v : ℕ) → k < length l → ((i : ℕ) → i < k → getD l i 0 ≡ g i) → v ≡ g k → (i : ℕ) → i < k + 1 → getD (set l k v) i 0 ≡ g i
-set-next l g k v long below here =
-    below-more (λ (i : ℕ). getD (set l k v) i 0 ≡ g i) k (λ i h. getD-set-other l k i v 0 (λ q. omega arith) ∙ below i h) (getD-set-same l k v 0 long ∙ here)
-
--- A row, filled from its first entry on.
-pub row-none : (l : List ℕ) (g : ℕ → ℕ) → length l ≡ 8 → Row l g 0
-row-none l g h = record { eight = h; each = below-none _ }
-
-pub row-more : (l : List ℕ) (g : ℕ → ℕ) (k s v : ℕ) → Row l g k → k < s → s ≤ 8 → v ≡ g k → Row (set l k v) g (k + 1)
-row-more l g k s v r h m e = record { eight = length-set l k v ∙ r .eight; each = set-next l g k v (omega (arith, r .eight)) (r .each) e }
-
-pub row-done : (l : List ℕ) (g : ℕ → ℕ) (k s : ℕ) → Row l g k → s ≤ k → Row l g s
-row-done l g k s r h = record { eight = r .eight; each = λ i below. r .each i (omega arith) }
 
 tally-is : (d : Bool) (n : ℕ) → _≡_ {A = ℕ} (elim d [ true ↦ suc n | false ↦ n ]) (tally d n)
 tally-is true n = refl
@@ -94,7 +77,7 @@ whole-joins : (J : Joins) (l : List ℕ) (S m : ℕ) → EndsOf J l m → wholeI
 unfolding wholeIn joinsIn
 whole-joins J l S zero h = refl
 whole-joins J l S (suc m) h =
-    rw (h .each m (omega arith), ends-in J S m, whole-joins J l S m (row-done l (endsOf J) (suc m) m h (omega arith))) (sym (tally-is (inside J S m) (joinsIn J S m)))
+    rw (h .each m (omega arith), ends-in J S m, whole-joins J l S m (listed-done l (endsOf J) 8 (suc m) m h (omega arith))) (sym (tally-is (inside J S m) (joinsIn J S m)))
 
 pub subquery-by-ends : (J : Joins) (l : List ℕ) (S : ℕ) → Tree J (J .count + 1) → EndsOf J l (J .count) → S < 2 ^ (J .count + 1) → subqueryBy l (J .count) S ≡ isSubquery J (J .count + 1) S
 unfolding subqueryBy

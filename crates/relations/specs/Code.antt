@@ -36,14 +36,14 @@ pub record FirstLeading (J : Joins) (S x A e : ℕ) : Type 0 where
   pub below : (i : ℕ) → i < e → leads J S x A i ≡ false
   pub found : e < J .count → leads J S x A e ≡ true
 
--- The first m of eight entries are g 0, g 1, ..
-pub record Row (l : List ℕ) (g : ℕ → ℕ) (m : ℕ) : Type 0 where
-  pub eight : length l ≡ 8
+-- The first m of n entries are g 0, g 1, ..
+pub record Listed (l : List ℕ) (g : ℕ → ℕ) (n m : ℕ) : Type 0 where
+  pub long : length l ≡ n
   pub each : (i : ℕ) → i < m → getD l i 0 ≡ g i
 
 -- The sides of the first m joins.
 abbrev pub SidesOf : Joins → List ℕ → ℕ → Type 0
-SidesOf J l m = Row l (side J (J .count + 1)) m
+SidesOf J l m = Listed l (side J (J .count + 1)) 8 m
 
 -- The two relations of join e, as a set.
 unfoldable pub endsOf : Joins → ℕ → ℕ
@@ -51,7 +51,7 @@ endsOf J e = put (2 ^ first J e) (second J e)
 
 -- The two relations of each of the first m joins.
 abbrev pub EndsOf : Joins → List ℕ → ℕ → Type 0
-EndsOf J l m = Row l (endsOf J) m
+EndsOf J l m = Listed l (endsOf J) 8 m
 
 -- One more where the test holds.
 abbrev pub tally : Bool → ℕ → ℕ

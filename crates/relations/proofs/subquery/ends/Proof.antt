@@ -4,7 +4,8 @@ use native.Mathlib.Omega.{arith}
 use mathlib.Core.Path.{refl}
 use borrow.Author.Needs.{needs}
 use Rattle.relations.specs.Code.{EndsOf}
-use Rattle.relations.proofs.Turns.{row-none, row-more, row-done, ends-are}
+use Rattle.relations.proofs.Listed.{listed-none, listed-more, listed-done}
+use Rattle.relations.proofs.Turns.{ends-are}
 use Rattle.relations.proofs.subquery.ends.Statement.{statement}
 use Rattle.relations.proofs.subquery.ends.Tie as tie
 
@@ -20,7 +21,7 @@ ends-spec =
     (tie.spec
     Inv-loop
     μ-loop
-    (λ c. (search needs, row-none _ _ refl))
+    (λ c. (search needs, listed-none _ _ _ refl))
     (λ c. search needs)
     (λ c. search needs)
     (λ c. search needs)
@@ -33,5 +34,5 @@ ends-spec =
     (λ c. search needs)
     (λ c. search needs)
     (λ c. search needs)
-    (λ c. (search needs, search (needs, row-more, ends-are)))
-    (λ c. search (needs, row-done)))
+    (λ c. (search needs, search (needs, listed-more, ends-are)))
+    (λ c. search (needs, listed-done)))
