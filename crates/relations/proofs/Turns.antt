@@ -28,7 +28,11 @@ subqueries-next : (J : Joins) (n S : ℕ) → countBelow J n (suc S) ≡ tally (
 unfolding countBelow
 subqueries-next J n S = tally-is (isSubquery J n S) (countBelow J n S)
 
--- One join more: the joins in a set by their ends, and the joins whose ends are in range.
+-- No join, and one join more: the joins in a set by their ends, and the joins whose ends are in range.
+pub whole-none : (l : List ℕ) (S : ℕ) → 0 ≡ wholeIn l S 0
+unfolding wholeIn
+whole-none l S = refl
+
 pub whole-more : (l : List ℕ) (S e n r : ℕ) (d : Bool) → n ≡ wholeIn l S e → d ≡ eqb (bitAnd S (getD l e 0)) (getD l e 0) → r ≡ tally d n → r ≡ wholeIn l S (e + 1)
 unfolding wholeIn
 whole-more l S e n r d p q h = rw (add-one, h, q, p)

@@ -4,7 +4,7 @@ use Prim.Native.Nat.{_-_, _≤_}
 use mathlib.Core.Path.{_≡_}
 use borrow.Author.Needs.{needs}
 use Rattle.relations.specs.Code.{wholeIn}
-use Rattle.relations.proofs.Turns.{whole-more}
+use Rattle.relations.proofs.Turns.{whole-none, whole-more}
 use Rattle.relations.proofs.subquery.joins_in.Statement.{statement}
 use Rattle.relations.proofs.subquery.joins_in.Tie as tie
 
@@ -15,20 +15,17 @@ abbrev μ-loop : tie.MeasureT-loop
 μ-loop ends count set n₀ e₀ n e = count - e
 
 pub joins-in-spec : {M : Type 1} → statement M
-unfolding wholeIn
 joins-in-spec =
     tie.close
     (tie.spec
     Inv-loop
     μ-loop
-    (λ c. (search needs, (search needs, search needs)))
+    (λ c. (search needs, (search needs, search (needs, whole-none))))
     (λ c. search needs)
     (λ c. search needs)
     (λ c κs. search needs)
     (λ c κs. search needs)
     (λ c. search needs)
     (λ c. search needs)
-    (λ c. let s = c .before .before .before .before .before in
-    let inv = c .before .before .before .before .loop .inv in
-    (search needs, (search needs, whole-more (s .args .ends .now) (s .args .set) _ _ _ _ (inv .1 .1) (c .before .within .ensures) (c .tally .ensures .0))))
+    (λ c. (search needs, (search needs, whole-more _ _ _ _ _ _ (c .before .before .before .before .loop .inv .1 .1) (c .before .within .ensures) (c .tally .ensures .0))))
     (λ c. let q : c .before .loop .e ≡ c .before .before .args .count = omega arith in (cc, search needs)))
