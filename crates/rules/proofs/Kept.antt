@@ -1,24 +1,23 @@
 -- What loads, sends and joins keep of each held result holds of the result that an allowed plan ends with.
 -- The held sets are disjoint and make up what is loaded, so the two operands of a join share no relation.
-use Prim.Native.Nat.{ℕ, suc, _+_, _*_, _-_, _^_, _<_}
+use Prim.Native.Nat.{ℕ, suc, _+_, _-_, _^_, _<_}
 use mathlib.Core.Path.{_≡_, refl}
-use mathlib.Core.Bool.{Bool, true, false, not, _&&_}
+use mathlib.Core.Bool.{true, false, not, _&&_}
 use mathlib.Core.List.{List, [], _∷_}
-use lib.ListN.{length}
-use lib.Dec.{eqb, leb, ltb}
+use lib.Dec.{eqb, ltb}
 use native.Mathlib.Omega.{arith}
 use borrow.Author.Tests.{ltb-true, eqb-true, eqb-false, not-true}
-use Rattle.relations.specs.Sets.{bit, Apart, all}
+use Rattle.relations.specs.Sets.{bit, Apart}
 use Rattle.relations.proofs.Bits.{bit-add, single-apart}
 use Rattle.relations.proofs.Leads.{both-true}
 use Rattle.query.specs.declared.Query.{Query}
-use Rattle.query.specs.Choice.{pick}
 use Rattle.query.specs.Query.{relationsOf, sitesOf, home, mayJoin, isOpen}
 use Rattle.rules.specs.declared.Origin.the-variants.{Bare}
 use Rattle.rules.specs.declared.Held.{Held}
-use Rattle.rules.specs.Machine.{Machine, start, Outcome, went, refused, charge, isSent, load, sentTo, sendTop, send, links, joinOf, joinTop, join, step}
-use Rattle.rules.specs.Plans.{Step, stepsOf, Verdict, accepted, rejected, after, finish, run, checked, AllowedAt}
+use Rattle.rules.specs.Machine.{Machine, charge, isSent, load, sentTo, sendTop, send, links, joinOf, joinTop, join}
+use Rattle.rules.specs.Plans.{AllowedAt}
 use Rattle.rules.proofs.Steps.{guarded, step-cases}
+use Rattle.rules.proofs.Invariants.{Holds, Invariant, Ends, allowed-ends}
 
 -- Relation r as a load puts it on top.
 abbrev pub bareOf : Query → ℕ → Held
@@ -36,46 +35,34 @@ abbrev Stacked : (Held → Type 0) → ℕ → List Held → Type 0
 Stacked P L [] = L ≡ 0
 Stacked P L (h ∷ hs) = (M : ℕ) × P h × Apart (h .set) M × (h .set + M ≡ L) × Stacked P M hs
 
--- The result that an accepted plan ends with.
-pub record Ends (q : Query) (P : Held → Type 0) (c : ℕ) : Type 0 where
-  pub held : Held
-  pub kept : P held
-  pub whole : held .set ≡ all (relationsOf q)
-  pub delivered : held .site ≡ q .target
-  pub figure : held .figure .0 ≡ c
+-- So do they after any number of steps.
+abbrev pub Stacks : (Held → Type 0) → ℕ → Machine → Type 0
+Stacks P i m = Stacked P (m .loaded) (m .stack)
 
 module _ (combine : ℕ → ℕ → ℕ) (q : Query) (P : Held → Type 0) (keeps : Keeps combine q P) where
-  abbrev Good : Outcome → Type 0
-  Good (went m) = Stacked P (m .loaded) (m .stack)
-  Good (refused k) = Unit {0}
-
-  abbrev Ended : Verdict → Type 0
-  Ended (accepted c) = Ends q P c
-  Ended (rejected k i) = Unit {0}
-
-  load-keeps : (r : ℕ) (m : Machine) → Stacked P (m .loaded) (m .stack) → Good (load q r m)
+  load-keeps : (i r : ℕ) (m : Machine) → Stacked P (m .loaded) (m .stack) → Holds (Stacks P) i (load q r m)
   unfolding load
-  load-keeps r m s =
-      guarded Good (ltb r (relationsOf q)) 8 _ tt λ known.
-      guarded Good (eqb (bit (m .loaded) r) 0) 9 _ tt λ fresh.
+  load-keeps i r m s =
+      guarded (Holds (Stacks P) i) (ltb r (relationsOf q)) 8 _ tt λ known.
+      guarded (Holds (Stacks P) i) (eqb (bit (m .loaded) r) 0) 9 _ tt λ fresh.
       let apart = single-apart (m .loaded) r (eqb-true (bit (m .loaded) r) 0 fresh) in
       (m .loaded, keeps .loads r (ltb-true r (relationsOf q) known), (λ i. omega (arith, apart i)), omega arith, s)
 
-  send-keeps : (t L : ℕ) (hs : List Held) → t < sitesOf q → Stacked P L hs → Good (sendTop q t L hs)
+  send-keeps : (i t L : ℕ) (hs : List Held) → t < sitesOf q → Stacked P L hs → Holds (Stacks P) i (sendTop q t L hs)
   unfolding sendTop
-  send-keeps t L [] listed s = tt
-  send-keeps t L (h ∷ hs) listed (M, p, apart, sum, s) =
-      guarded Good ((not (eqb (h .site) t) && isOpen q (h .site) t) && not (isSent (h .origin))) 10 _ tt λ allowed.
+  send-keeps i t L [] listed s = tt
+  send-keeps i t L (h ∷ hs) listed (M, p, apart, sum, s) =
+      guarded (Holds (Stacks P) i) ((not (eqb (h .site) t) && isOpen q (h .site) t) && not (isSent (h .origin))) 10 _ tt λ allowed.
       let outer = both-true (not (eqb (h .site) t) && isOpen q (h .site) t) (not (isSent (h .origin))) allowed in
       let inner = both-true (not (eqb (h .site) t)) (isOpen q (h .site) t) (outer .0) in
       (M, keeps .sends t h p listed (eqb-false (h .site) t (not-true (eqb (h .site) t) (inner .0))) (inner .1) (not-true (isSent (h .origin)) (outer .1)), apart, sum, s)
 
-  join-keeps : (e L : ℕ) (hs : List Held) → e < relationsOf q - 1 → Stacked P L hs → Good (joinTop combine q e L hs)
+  join-keeps : (i e L : ℕ) (hs : List Held) → e < relationsOf q - 1 → Stacked P L hs → Holds (Stacks P) i (joinTop combine q e L hs)
   unfolding joinTop
-  join-keeps e L [] known s = tt
-  join-keeps e L (b ∷ []) known s = tt
-  join-keeps e L (b ∷ (a ∷ hs)) known (M, pb, apart-b, sum-b, (N, pa, apart-a, sum-a, s)) =
-      guarded Good ((eqb (a .site) (b .site) && mayJoin q (b .site)) && links (q .joins) e (a .set) (b .set)) 11 _ tt λ allowed.
+  join-keeps i e L [] known s = tt
+  join-keeps i e L (b ∷ []) known s = tt
+  join-keeps i e L (b ∷ (a ∷ hs)) known (M, pb, apart-b, sum-b, (N, pa, apart-a, sum-a, s)) =
+      guarded (Holds (Stacks P) i) ((eqb (a .site) (b .site) && mayJoin q (b .site)) && links (q .joins) e (a .set) (b .set)) 11 _ tt λ allowed.
       let outer = both-true (eqb (a .site) (b .site) && mayJoin q (b .site)) (links (q .joins) e (a .set) (b .set)) allowed in
       let inner = both-true (eqb (a .site) (b .site)) (mayJoin q (b .site)) (outer .0) in (
         N,
@@ -91,50 +78,13 @@ module _ (combine : ℕ → ℕ → ℕ) (q : Query) (P : Held → Type 0) (keep
       operands : Apart (a .set) (b .set)
       operands i = omega (arith, member i, apart-b i)
 
-  step-keeps : (x : Step) (m : Machine) → Stacked P (m .loaded) (m .stack) → Good (step combine q (x .kind) (x .arg) m)
+  step-keeps : Invariant combine q (Stacks P)
   unfolding send join
-  step-keeps x m s =
-      step-cases (λ o p. Good o) combine q x m (load-keeps (x .arg) m s)
-      (guarded Good (ltb (x .arg) (sitesOf q)) 8 _ tt λ known. send-keeps (x .arg) (m .loaded) (m .stack) (ltb-true (x .arg) (sitesOf q) known) s)
-      (guarded Good (ltb (x .arg) (relationsOf q - 1)) 8 _ tt λ known. join-keeps (x .arg) (m .loaded) (m .stack) (ltb-true (x .arg) (relationsOf q - 1) known) s)
+  step-keeps i x m s =
+      step-cases (λ o p. Holds (Stacks P) (suc i) o) combine q x m (load-keeps (suc i) (x .arg) m s)
+      (guarded (Holds (Stacks P) (suc i)) (ltb (x .arg) (sitesOf q)) 8 _ tt λ known. send-keeps (suc i) (x .arg) (m .loaded) (m .stack) (ltb-true (x .arg) (sitesOf q) known) s)
+      (guarded (Holds (Stacks P) (suc i)) (ltb (x .arg) (relationsOf q - 1)) 8 _ tt λ known. join-keeps (suc i) (x .arg) (m .loaded) (m .stack) (ltb-true (x .arg) (relationsOf q - 1) known) s)
       tt
 
-  finish-keeps : (i L : ℕ) (hs : List Held) → Stacked P L hs → Ended (finish q i hs)
-  unfolding finish
-  finish-keeps i L [] s = tt
-  finish-keeps i L (h ∷ []) s = go (eqb (h .set) (all (relationsOf q)) && eqb (h .site) (q .target)) refl
-    where
-      go : (b : Bool) → (eqb (h .set) (all (relationsOf q)) && eqb (h .site) (q .target)) ≡ b → Ended (pick b (accepted (h .figure .0)) (rejected 12 i))
-      go true e =
-          let two = both-true (eqb (h .set) (all (relationsOf q))) (eqb (h .site) (q .target)) e in
-          record {
-            held = h;
-            kept = s .1;
-            whole = eqb-true (h .set) (all (relationsOf q)) (two .0);
-            delivered = eqb-true (h .site) (q .target) (two .1);
-            figure = refl;
-          }
-      go false e = tt
-  finish-keeps i L (h ∷ (a ∷ hs)) s = tt
-
-  run-keeps : (i : ℕ) (xs : List Step) (m : Machine) → Stacked P (m .loaded) (m .stack) → Ended (run combine q i xs m)
-  unfolding run
-  run-keeps i [] m s = finish-keeps i (m .loaded) (m .stack) s
-  run-keeps i (x ∷ xs) m s = go (step combine q (x .kind) (x .arg) m) (step-keeps x m s) (run-keeps (suc i) xs)
-    where
-      go : (o : Outcome) → Good o → ((n : Machine) → Stacked P (n .loaded) (n .stack) → Ended (run combine q (suc i) xs n)) →
-          Ended (after i o (run combine q (suc i) xs))
-      go (went n) g later = later n g
-      go (refused k) g later = tt
-
-  checked-keeps : (plan : List ℕ) → Ended (checked combine q plan)
-  unfolding checked
-  checked-keeps [] = tt
-  checked-keeps (count ∷ bytes) = go ((leb 1 count && leb count 34) && eqb (length bytes) (2 * count))
-    where
-      go : (b : Bool) → Ended (pick b (run combine q 0 (stepsOf bytes) start) (rejected 7 0))
-      go true = run-keeps 0 (stepsOf bytes) start refl
-      go false = tt
-
-  pub allowed-ends : (plan : List ℕ) (c : ℕ) → AllowedAt combine q plan c → Ends q P c
-  allowed-ends plan c h = rw h at (checked-keeps plan)
+  pub allowed-kept : (plan : List ℕ) (c : ℕ) → AllowedAt combine q plan c → Ends q (Stacks P) c
+  allowed-kept plan c h = allowed-ends combine q (Stacks P) step-keeps plan c refl h

@@ -10,9 +10,10 @@ use Rattle.relations.specs.Sets.{bit}
 use Rattle.relations.proofs.Leads.{clash}
 use Rattle.query.specs.declared.Query.{Query}
 use Rattle.query.specs.Query.{relationsOf, sitesOf, mayJoin, isOpen}
+use Rattle.rules.specs.declared.Step.{Step}
 use Rattle.rules.specs.declared.Held.{Held}
 use Rattle.rules.specs.Machine.{Machine, Outcome, went, refused, isSent, load, sentTo, sendTop, send, links, joinOf, joinTop, join, step}
-use Rattle.rules.specs.Plans.{Step, after, finish, run}
+use Rattle.rules.specs.Plans.{after, finish, run}
 use Rattle.rules.proofs.Kept.{bareOf}
 
 -- Steps one after another, with no end condition.

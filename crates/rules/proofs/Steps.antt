@@ -7,8 +7,9 @@ use native.Mathlib.Omega.{arith}
 use borrow.Author.Tests.{eqb-true}
 use Rattle.query.specs.declared.Query.{Query}
 use Rattle.query.specs.Choice.{pick}
+use Rattle.rules.specs.declared.Step.{Step}
 use Rattle.rules.specs.Machine.{Machine, Outcome, refused, guard, load, send, join, step}
-use Rattle.rules.specs.Plans.{Step, sendPrice, joinStepPrice, stepPrice}
+use Rattle.rules.specs.Plans.{sendPrice, joinStepPrice, stepPrice}
 
 -- What holds of the refusal, and of what follows where the rule is kept.
 pub guarded : (P : Outcome → Type 0) (b : Bool) (k : ℕ) (o : Outcome) → P (refused k) → (b ≡ true → P o) → P (guard b k o)

@@ -24,12 +24,14 @@ use Rattle.query.proofs.Prices.{join-either, spared-cheaper, carriage-stays, ca
 use Rattle.rules.specs.declared.Origin.{Origin}
 use Rattle.rules.specs.declared.Origin.the-variants.{Bare, Sent, Joined}
 use Rattle.rules.specs.declared.Held.{Held}
+use Rattle.rules.specs.Combine.{Combines}
 use Rattle.rules.specs.Machine.{isBare, isSent, sentTo, links, spared, joinOf}
 use Rattle.rules.specs.Plans.{AllowedAt}
 use Rattle.rules.proofs.Links.{links-means}
-use Rattle.rules.proofs.Kept.{bareOf, Keeps, Ends, allowed-ends}
+use Rattle.rules.proofs.Invariants.{Ends}
+use Rattle.rules.proofs.Kept.{bareOf, Keeps, Stacks, allowed-kept}
 use Rattle.tables.specs.Tables.{only, byJoin, bySite, delivered, joined, cheapest}
-use Rattle.tables.specs.Theorems.{Combines, CheapestLaw}
+use Rattle.tables.specs.Theorems.{CheapestLaw}
 use Rattle.tables.proofs.Costs.{at-most-is, at-most-more, both-most, plus-most}
 use Rattle.tables.proofs.Tables.{ones-some, delivered-one, delivered-within, joined-within}
 
@@ -144,9 +146,9 @@ module _ (combine : ℕ → ℕ → ℕ) (laws : Combines combine) (q : Query) (
 
   lower : (plan : List ℕ) (c : ℕ) → AllowedAt combine q plan c → AtMost (cheapest combine q) c
   lower plan c allowed =
-      let end : Ends q Fine c = allowed-ends combine q Fine fine plan c allowed in
+      let end : Ends q (Stacks Fine) c = allowed-kept combine q Fine fine plan c allowed in
       let h : Held = end .held in
-      let f : Fine h = end .kept in
+      let f : Fine h = end .kept .1 in
       let bound = reaches (h .origin) (h .set) (h .site) (h .figure .0) (f .subquery) (f .listed) (f .bounded) in
       at-end (h .set) (h .site) (h .figure .0) (end .whole) (end .delivered) (end .figure) bound
     where

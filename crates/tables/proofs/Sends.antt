@@ -19,11 +19,11 @@ use Rattle.query.specs.Cost.{some}
 use Rattle.query.specs.Query.{Valid, relationsOf, sitesOf, home, isOpen}
 use Rattle.query.specs.Prices.{linePrice, carriage, indexed}
 use Rattle.query.proofs.Prices.{Carried, carried}
+use Rattle.rules.specs.declared.Step.{Step}
 use Rattle.rules.specs.declared.Origin.{Origin}
 use Rattle.rules.specs.declared.Origin.the-variants.{Bare, Sent}
 use Rattle.rules.specs.declared.Held.{Held}
 use Rattle.rules.specs.Machine.{Machine, went, charge, isSent, spared}
-use Rattle.rules.specs.Plans.{Step}
 use Rattle.rules.proofs.Runs.{ran, load-goes, send-goes, ran-then, ran-one}
 use Rattle.tables.specs.Tables.{only, delivered}
 use Rattle.tables.specs.Plan.{loadStep, sendStep, sendIfDue}
