@@ -1,5 +1,5 @@
 -- The section Sizes: its loop passes over every set of relations and reads an amount where the set is a subquery.
-use Prim.Native.Nat.{ℕ, _+_, _-_, _^_, _<_}
+use Prim.Native.Nat.{ℕ, _+_, _-_, _^_, _≤_, _<_}
 use native.Mathlib.Nat.{sub-zero}
 use mathlib.Core.Path.{_≡_, sym, _∙_}
 use mathlib.Core.Bool.{Bool, true, false}
@@ -13,7 +13,14 @@ use Rattle.query.specs.Fields.{Read, refused, value, field, amountUpTo, 
 use Rattle.query.specs.Decode.{withSize, sized, sizesSection}
 use Rattle.query.specs.Code.{fieldOf, faultOf}
 use Rattle.query.proofs.Reading.{field-value, field-no, count-cut}
-use Rattle.query.proofs.Loops.{stored-no, stored-on, items-done, items-on}
+use Rattle.query.proofs.Loops.{stored-no, stored-on, items-on}
+
+-- The loop's end is the number of sets.
+pub below-end : (S v n : ℕ) → S < v → v ≡ 2 ^ n → S < 2 ^ n
+below-end S v n h q = rw (← q) h
+
+pub past-end : (S v n : ℕ) → v ≤ S → v ≡ 2 ^ n → 2 ^ n ≤ S
+past-end S v n h q = rw (← q) h
 
 module _ (J : Joins) (n d : ℕ) (l : List ℕ) (f : Field) where
   pub sizes-cut :
@@ -54,5 +61,3 @@ module _ (J : Joins) (n : ℕ) (answer : Read (List ℕ)) (e S at : ℕ) (a l : 
     size-on v h g q t i so less =
         stored-on (amountUpTo 1_000_000_000) withSize (sized J n) answer e S at a l p (one (sym i ∙ t) p) q so less v 4
         (field-value 4 3 0 1_000_000_000 v p f g h)
-
-pub ruleset of-sizes = (sizes-cut, sizes-start, size-none, size-no, size-on, items-done)

@@ -18,7 +18,7 @@ use Rattle.relations.specs.Sets.{bit}
 use Rattle.relations.specs.Growth.{inside}
 use Rattle.relations.specs.Trees.{isSubquery, joinsIn, Tree}
 use Rattle.relations.specs.Code.{orNone}
-use Rattle.relations.specs.Table.{joinBits, entry, TableOf, isConnected}
+use Rattle.relations.specs.Table.{joinBits, entry, Tabled, isConnected}
 use Rattle.relations.proofs.Bits.{bit-add, bit-high, bit-pow, bit-pow-other, single-apart}
 use Rattle.relations.proofs.Counts.{ones-zero}
 use Rattle.relations.proofs.SubqueryCount.{subquery-by-count}
@@ -119,8 +119,6 @@ module _ (J : Joins) (S : ℕ) (few : J .count ≤ 8) where
       some : 0 < S → eqb (joinsIn J S (J .count) + 1) (ones S) ≡ isSubquery J (J .count + 1) S
       some p = rw (test, lt-ltb 0 S p)
 
--- What a table says of a set, as a loop over the sets has it.
-pub table-connected :
-    (J : Joins) (l : List ℕ) (S m : ℕ) (d : Bool) → Tree J (J .count + 1) → J .count ≤ 8 → TableOf J l m → S < m → m ≡ 2 ^ (J .count + 1) →
-    d ≡ isConnected (getD l S 0) → d ≡ isSubquery J (J .count + 1) S
-table-connected J l S m d t few table h q e = e ∙ ap isConnected (table .each S h) ∙ connected J S few t (omega arith)
+-- What a tree's table says of a set, as a loop over the sets below e has it.
+pub tested : (J : Joins) (l : List ℕ) (S e : ℕ) (d : Bool) → Tabled J l → d ≡ isConnected (getD l S 0) → S < e → e ≡ 2 ^ (J .count + 1) → d ≡ isSubquery J (J .count + 1) S
+tested J l S e d t q h z = q ∙ ap isConnected (t .entries .each S (omega arith)) ∙ connected J S (t .few) (t .tree) (omega arith)

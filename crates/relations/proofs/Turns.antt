@@ -16,7 +16,9 @@ use Rattle.relations.specs.Sets.{bit, put, Sub}
 use Rattle.relations.specs.Growth.{first, second, inside}
 use Rattle.relations.specs.Trees.{isSubquery, countBelow, subqueries, joinsIn, Tree}
 use Rattle.relations.specs.Code.{endsOf, tally, wholeIn, subqueryBy, endsBelow, Drawn, EndsOf}
+use Rattle.relations.specs.Table.{Tabled, isConnected}
 use Rattle.relations.proofs.Bits.{bit-le, bit-and, and-of-sub, bit-pow, bit-put, sub-single}
+use Rattle.relations.proofs.Entries as entries
 use Rattle.relations.proofs.Listed.{listed-done}
 use Rattle.relations.proofs.SubqueryCount.{subquery-by-count}
 
@@ -101,20 +103,24 @@ pub ends-are : (J : Joins) (e v w : ℕ) → v ≡ 2 ^ first J e → w ≡ put v
 unfolding endsOf
 ends-are J e v w q z = z ∙ ap (λ (x : ℕ). put x (second J e)) q
 
--- One set more: the subqueries below it.
+-- No set, one set more, and all of them: the subqueries below.
+pub subqueries-none : (J : Joins) (n : ℕ) → 0 ≡ countBelow J n 0
+unfolding countBelow
+subqueries-none J n = refl
+
 pub subqueries-more :
-    (J : Joins) (l : List ℕ) (S m r e : ℕ) (d : Bool) → Tree J (J .count + 1) → EndsOf J l (J .count) → m ≡ countBelow J (J .count + 1) S →
-    d ≡ subqueryBy l (J .count) S → r ≡ tally d m → S < e → e ≡ 2 ^ (J .count + 1) → r ≡ countBelow J (J .count + 1) (S + 1)
-subqueries-more J l S m r e d t h p q z k w =
-    let i = tested J l S e d t h q k w in
+    (J : Joins) (l : List ℕ) (S m r e : ℕ) (d : Bool) → Tabled J l → m ≡ countBelow J (J .count + 1) S → d ≡ isConnected (getD l S 0) → r ≡ tally d m → S < e →
+    e ≡ 2 ^ (J .count + 1) → r ≡ countBelow J (J .count + 1) (S + 1)
+subqueries-more J l S m r e d t p q z k w =
+    let i = entries.tested J l S e d t q k w in
     cc (add-one S, subqueries-next J (J .count + 1) S)
 
-pub subqueries-done : (J : Joins) (n S m end : ℕ) → m ≡ countBelow J n S → S ≤ end → end ≤ S → end ≡ 2 ^ n → m ≡ subqueries J n
+pub subqueries-done : (J : Joins) (n S m end : ℕ) → m ≡ countBelow J n S → S ≤ 2 ^ n → end ≤ S → end ≡ 2 ^ n → m ≡ subqueries J n
 subqueries-done J n S m end p l h q = let last : S ≡ 2 ^ n = omega arith in cc
 
 -- The sets of at most nine relations are few.
-pub few-sets : (m s : ℕ) → m ≤ 8 → s ≡ 2 ^ (m + 1) → s ≤ 512
-few-sets m s h q = let most : 2 ^ (m + 1) ≤ 2 ^ 9 = pow-mono {j = 9} (omega arith) in omega arith
+pub few-sets : (m : ℕ) → m ≤ 8 → 2 ^ (m + 1) ≤ 512
+few-sets m h = pow-mono {j = 9} (omega arith)
 
 pub below-512 : (S n : ℕ) → n ≤ 9 → S < 2 ^ n → S < 512
 below-512 S n l h = omega (arith, pow-mono l)

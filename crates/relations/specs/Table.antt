@@ -10,7 +10,7 @@ use lib.Dec.{eqb, leb, ltb}
 use lib.ListN.{length, getD}
 use Rattle.relations.specs.declared.Joins.{Joins}
 use Rattle.relations.specs.Growth.{inside}
-use Rattle.relations.specs.Trees.{joinsIn}
+use Rattle.relations.specs.Trees.{joinsIn, Tree}
 use Rattle.relations.specs.Code.{Listed, orNone}
 
 -- The joins below m that lie in S, as a set of joins: the sum of 2^e over them.
@@ -25,6 +25,12 @@ entry J S = 65536 * ones S + (256 * joinsIn J S (J .count) + joinBits J S (J .co
 -- The entries of the sets below m.
 abbrev pub TableOf : Joins → List ℕ → ℕ → Type 0
 TableOf J l m = Listed l (entry J) 512 m
+
+-- The joins make a tree, and the table has every set of its relations.
+pub record Tabled (J : Joins) (l : List ℕ) : Type 0 where
+  pub few : J .count ≤ 8
+  pub tree : Tree J (J .count + 1)
+  pub entries : TableOf J l (2 ^ (J .count + 1))
 
 -- The set of an entry holds one join fewer than relations. In a tree these are the subqueries: `connected` in proofs/.
 unfoldable pub isConnected : ℕ → Bool
