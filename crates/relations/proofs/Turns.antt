@@ -1,26 +1,23 @@
 -- What the code's loops and calls lean on: one turn of each loop is one step of the definition that the loop computes.
-use Prim.Native.Nat.{ℕ, zero, suc, _+_, _^_, _≤_, _<_}
-use mathlib.Core.Path.{_≡_, refl, sym, ap, _∙_}
+use Prim.Native.Nat.{ℕ, suc, _+_, _^_, _≤_, _<_}
+use mathlib.Core.Path.{_≡_, refl, ap, _∙_}
 use mathlib.Core.Bool.{Bool, true, false, _&&_}
 use mathlib.Core.List.{List}
 use native.Mathlib.Numerals.{add-one}
 use native.Mathlib.Omega.{arith}
 use borrow.Author.Tests.{eqb-true, eqb-false, eq-eqb, ne-eqb}
 use lib.Bits.{bitAnd}
-use lib.Count.{ones}
 use lib.Dec.{eqb, ltb}
 use lib.ListN.{getD}
 use lib.Pow.{pow-mono}
 use Rattle.relations.specs.declared.Joins.{Joins}
 use Rattle.relations.specs.Sets.{bit, put, Sub}
 use Rattle.relations.specs.Growth.{first, second, inside}
-use Rattle.relations.specs.Trees.{isSubquery, countBelow, subqueries, joinsIn, Tree}
-use Rattle.relations.specs.Code.{endsOf, tally, wholeIn, subqueryBy, endsBelow, Drawn, EndsOf}
+use Rattle.relations.specs.Trees.{isSubquery, countBelow, subqueries}
+use Rattle.relations.specs.Code.{endsOf, tally, endsBelow}
 use Rattle.relations.specs.Table.{Tabled, isConnected}
 use Rattle.relations.proofs.Bits.{bit-le, bit-and, and-of-sub, bit-pow, bit-put, sub-single}
-use Rattle.relations.proofs.Entries as entries
-use Rattle.relations.proofs.Listed.{listed-done}
-use Rattle.relations.proofs.SubqueryCount.{subquery-by-count}
+use Rattle.relations.proofs.Entries.{tested}
 
 tally-is : (d : Bool) (n : ℕ) → _≡_ {A = ℕ} (elim d [ true ↦ suc n | false ↦ n ]) (tally d n)
 tally-is true n = refl
@@ -30,24 +27,12 @@ subqueries-next : (J : Joins) (n S : ℕ) → countBelow J n (suc S) ≡ tally (
 unfolding countBelow
 subqueries-next J n S = tally-is (isSubquery J n S) (countBelow J n S)
 
--- No join, and one join more: the joins in a set by their ends, and the joins whose ends are in range.
-pub whole-none : (l : List ℕ) (S : ℕ) → 0 ≡ wholeIn l S 0
-unfolding wholeIn
-whole-none l S = refl
-
-pub whole-more : (l : List ℕ) (S e n r : ℕ) (d : Bool) → n ≡ wholeIn l S e → d ≡ eqb (bitAnd S (getD l e 0)) (getD l e 0) → r ≡ tally d n → r ≡ wholeIn l S (e + 1)
-unfolding wholeIn
-whole-more l S e n r d p q h = rw (add-one, h, q, p)
-
+-- One join more: the joins whose ends are in range.
 pub ends-more : (J : Joins) (n e : ℕ) (d : Bool) → d ≡ endsBelow J n e → (d && (ltb (first J e) n && ltb (second J e) n)) ≡ endsBelow J n (e + 1)
 unfolding endsBelow
 ends-more J n e d p = rw (add-one, p)
 
--- The test of a set by the ends of its joins is the definition's, in a tree.
-pub subquery-test : (l : List ℕ) (m S k : ℕ) → k ≡ wholeIn l S m → (ltb 0 S && eqb (k + 1) (ones S)) ≡ subqueryBy l m S
-unfolding subqueryBy
-subquery-test l m S k q = rw q
-
+-- A join lies in a set where the set masked by its ends is the ends.
 pub ends-in : (J : Joins) (S e : ℕ) → eqb (bitAnd S (endsOf J e)) (endsOf J e) ≡ inside J S e
 unfolding inside endsOf
 ends-in J S e = go (eqb (bit S (first J e) + bit S (second J e)) 2) refl
@@ -79,25 +64,6 @@ ends-in J S e = go (eqb (bit S (first J e) + bit S (second J e)) 2) refl
         eqb-false (bit S f + bit S s) 2 p
         (omega (arith, ap (λ (x : ℕ). bit x f) q, ap (λ (x : ℕ). bit x s) q, bit-and S M f, bit-and S M s, has-first, has-second, bit-le S f, bit-le S s))
 
-whole-joins : (J : Joins) (l : List ℕ) (S m : ℕ) → EndsOf J l m → wholeIn l S m ≡ joinsIn J S m
-unfolding wholeIn joinsIn
-whole-joins J l S zero h = refl
-whole-joins J l S (suc m) h =
-    rw (h .each m (omega arith), ends-in J S m, whole-joins J l S m (listed-done l (endsOf J) 8 (suc m) m h (omega arith))) (sym (tally-is (inside J S m) (joinsIn J S m)))
-
-pub subquery-by-ends : (J : Joins) (l : List ℕ) (S : ℕ) → Tree J (J .count + 1) → EndsOf J l (J .count) → S < 2 ^ (J .count + 1) → subqueryBy l (J .count) S ≡ isSubquery J (J .count + 1) S
-unfolding subqueryBy
-subquery-by-ends J l S t h k = rw (whole-joins J l S (J .count) h) (sym (subquery-by-count J (J .count + 1) t S k))
-
--- A test by the ends, as a loop over the sets below e has it.
-pub tested :
-    (J : Joins) (l : List ℕ) (S e : ℕ) (d : Bool) → Tree J (J .count + 1) → EndsOf J l (J .count) → d ≡ subqueryBy l (J .count) S → S < e →
-    e ≡ 2 ^ (J .count + 1) → d ≡ isSubquery J (J .count + 1) S
-tested J l S e d t h q k w = q ∙ subquery-by-ends J l S t h (omega arith)
-
-pub tree-drawn : (J : Joins) → J .count ≤ 8 → Tree J (J .count + 1) → Drawn J
-tree-drawn J h t = record { few = h; first-in = t .first-in; second-in = t .second-in }
-
 -- One join's ends.
 pub ends-are : (J : Joins) (e v w : ℕ) → v ≡ 2 ^ first J e → w ≡ put v (second J e) → w ≡ endsOf J e
 unfolding endsOf
@@ -112,7 +78,7 @@ pub subqueries-more :
     (J : Joins) (l : List ℕ) (S m r e : ℕ) (d : Bool) → Tabled J l → m ≡ countBelow J (J .count + 1) S → d ≡ isConnected (getD l S 0) → r ≡ tally d m → S < e →
     e ≡ 2 ^ (J .count + 1) → r ≡ countBelow J (J .count + 1) (S + 1)
 subqueries-more J l S m r e d t p q z k w =
-    let i = entries.tested J l S e d t q k w in
+    let i = tested J l S e d t q k w in
     cc (add-one S, subqueries-next J (J .count + 1) S)
 
 pub subqueries-done : (J : Joins) (n S m end : ℕ) → m ≡ countBelow J n S → S ≤ 2 ^ n → end ≤ S → end ≡ 2 ^ n → m ≡ subqueries J n

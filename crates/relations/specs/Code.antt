@@ -3,10 +3,8 @@ use Prim.Native.Nat.{ℕ, zero, suc, _+_, _^_, _≤_, _<_}
 use mathlib.Core.Path.{_≡_}
 use mathlib.Core.Bool.{Bool, true, false, _&&_}
 use mathlib.Core.List.{List}
-use lib.Bits.{bitAnd}
-use lib.Count.{ones}
 use lib.ListN.{length, getD}
-use lib.Dec.{eqb, leb, ltb}
+use lib.Dec.{leb, ltb}
 use Rattle.relations.specs.declared.Joins.{Joins}
 use Rattle.relations.specs.Sets.{Sub, put}
 use Rattle.relations.specs.Growth.{first, second, leads}
@@ -57,16 +55,6 @@ EndsOf J l m = Listed l (endsOf J) 8 m
 abbrev pub tally : Bool → ℕ → ℕ
 tally true n = suc n
 tally false n = n
-
--- How many of the first m entries of a list lie in S whole.
-unfoldable pub wholeIn : List ℕ → ℕ → ℕ → ℕ
-wholeIn l S zero = 0
-wholeIn l S (suc m) = tally (eqb (bitAnd S (getD l m 0)) (getD l m 0)) (wholeIn l S m)
-
--- The test of a set by the ends of the m joins: it is not empty and holds one join fewer than relations. For a tree it is `isSubquery`:
--- `subquery-by-ends` in proofs/.
-unfoldable pub subqueryBy : List ℕ → ℕ → ℕ → Bool
-subqueryBy l m S = ltb 0 S && eqb (wholeIn l S m + 1) (ones S)
 
 -- The ends of the first m joins are below n.
 unfoldable pub endsBelow : Joins → ℕ → ℕ → Bool

@@ -12,7 +12,6 @@ pub use member::within;
 pub use subquery::count_subqueries;
 pub use subquery::counted;
 pub use subquery::ends;
-pub use subquery::is_subquery;
 pub use table::is_connected;
 pub use table::join_table;
 pub use table::joins_in;

@@ -2,14 +2,13 @@
 use crate::Joins;
 use crate::member::single;
 use crate::member::with;
-use crate::member::within;
 use crate::table::is_connected;
 use crate::table::join_table;
 use crate::tree::reaches;
 ghost use Prim.Native.Nat.{_+_, _^_, _≤_, _<_};
 ghost use mathlib.Core.Path.{_≡_};
 ghost use Rattle.relations.specs.Trees.{subqueries};
-ghost use Rattle.relations.specs.Code.{Drawn, EndsOf, wholeIn, subqueryBy, tally, endsBelow, counted};
+ghost use Rattle.relations.specs.Code.{Drawn, EndsOf, tally, endsBelow, counted};
 ghost use Rattle.relations.specs.Table.{Tabled};
 
 // One more where the test holds.
@@ -35,29 +34,6 @@ pub fn ends(joins: Joins) -> [usize; 8]
         e += 1;
     }
     found
-}
-
-// How many joins lie in the set, by their ends.
-fn joins_in(ends: &[usize; 8], count: usize, set: usize) -> usize
-    requires { ⌜ count ≤ 8 ⌝ }
-    ensures { λ r. ⌜ (r ≡ wholeIn (now (ends .entry)) set count) × (r ≤ 8) ⌝ }
-{
-    let mut n = 0;
-    let mut e = 0;
-    while e < count {
-        n = tally(within(set, ends[e]), n);
-        e += 1;
-    }
-    n
-}
-
-// The set is a subquery of the tree whose joins have these ends.
-pub fn is_subquery(ends: &[usize; 8], count: usize, set: usize) -> bool
-    requires { ⌜ count ≤ 8 ⌝ }
-    ensures { λ r. ⌜ r ≡ subqueryBy (now (ends .entry)) count set ⌝ }
-{
-    let relations = usize::count_ones(set) as usize;
-    (0 < set) & (joins_in(ends, count, set) + 1 == relations)
 }
 
 // The number of subqueries of a tree, by its table.
