@@ -118,12 +118,12 @@ unfolding arriving
 linked-none old l half = record { long = refl; lower = λ i h. refl; done = λ i h. omega arith; left = λ i h. refl }
 
 pub linked-more :
-    (old mid new l : List ℕ) (half e v : ℕ) → Upper old mid half half (λ i. getD old (half + i) 0 + arriving l half i e) → v ≡ 2 ^ e →
-    Upper mid new half half (λ i. getD mid (half + i) 0 + orNone (arrives half (getD l e 0) i) (256 + v)) →
+    (old mid new l : List ℕ) (half e w : ℕ) → Upper old mid half half (λ i. getD old (half + i) 0 + arriving l half i e) →
+    Upper mid new half half (λ i. getD mid (half + i) 0 + orNone (arrives half (getD l e 0) i) w) → w ≡ 256 + 2 ^ e →
     Upper old new half half (λ i. getD old (half + i) 0 + arriving l half i (e + 1))
 unfolding arriving
-linked-more old mid new l half e v a q b =
-    upper-then old mid new half (λ i. getD old (half + i) 0 + arriving l half i e) (λ i. orNone (arrives half (getD l e 0) i) (256 + v))
+linked-more old mid new l half e w a b q =
+    upper-then old mid new half (λ i. getD old (half + i) 0 + arriving l half i e) (λ i. orNone (arrives half (getD l e 0) i) w)
     (λ i. getD old (half + i) 0 + arriving l half i (e + 1)) a b (λ i. rw (add-one, q) (omega arith))
 
 pub linked-all :

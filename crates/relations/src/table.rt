@@ -10,6 +10,11 @@ ghost use lib.ListN.{getD};
 ghost use Rattle.relations.specs.Code.{Drawn, orNone};
 ghost use Rattle.relations.specs.Table.{TableOf, isConnected, arrives, arriving, Upper, Roomy};
 
+// What one relation and one join add to an entry. The joins as a set, eight at most, stand below.
+const RELATION: u32 = 65536;
+
+const JOIN: u32 = 256;
+
 // The sets with a new relation, whose mask is half: each holds what the set without it holds, and one relation more.
 fn double(table: &mut [u32; 512], half: usize)
     requires { ⌜ Roomy (now table) half 0 20 ⌝ }
@@ -17,7 +22,7 @@ fn double(table: &mut [u32; 512], half: usize)
 {
     let mut set = 0;
     while set < half {
-        table[half + set] = table[set] + 65536;
+        table[half + set] = table[set] + RELATION;
         set += 1;
     }
 }
@@ -59,7 +64,7 @@ fn add_relation(table: &mut [u32; 512], ends: &[usize; 8], count: usize, half: u
     double(table, half);
     let mut e = 0;
     while e < count {
-        link_join(table, half, ends[e], 256 + single(e) as u32);
+        link_join(table, half, ends[e], JOIN + single(e) as u32);
         e += 1;
     }
 }
@@ -83,19 +88,19 @@ pub fn join_table(joins: Joins) -> [u32; 512]
 pub fn relations_in(entry: u32) -> usize
     ensures { λ r. ⌜ r ≡ entry / 65536 ⌝ }
 {
-    (entry / 65536) as usize
+    (entry / RELATION) as usize
 }
 
 // The joins in the set of an entry, as a set of joins.
 pub fn joins_in(entry: u32) -> usize
     ensures { λ r. ⌜ r ≡ entry % 256 ⌝ }
 {
-    (entry % 256) as usize
+    (entry % JOIN) as usize
 }
 
 // The set of an entry holds one join fewer than relations.
 pub fn is_connected(entry: u32) -> bool
     ensures { λ r. ⌜ r ≡ isConnected entry ⌝ }
 {
-    entry / 256 % 256 + 1 == entry / 65536
+    entry / JOIN % JOIN + 1 == entry / RELATION
 }

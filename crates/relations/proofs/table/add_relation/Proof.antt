@@ -33,5 +33,5 @@ add-relation-spec =
     (λ c. search needs)
     (λ c. search needs)
     (λ c. let inv = c .before .before .before .before .before .loop .inv in
-    (search needs, (search needs, linked-more _ _ _ _ _ _ _ (inv .1 .1) (c .before .single .ensures) (c .link-join .ensures))))
+    (search needs, (search needs, linked-more _ _ _ _ _ _ _ (inv .1 .1) (c .link-join .ensures) (search needs))))
     (λ c. let inv = c .before .loop .inv in linked-all _ _ _ _ _ _ _ (c .before .before .double .ensures) (inv .1 .1) (search needs) (search needs)))
