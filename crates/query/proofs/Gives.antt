@@ -9,7 +9,7 @@ use lib.ListN.{length, set, drop, replicate}
 use lib.Dec.{ltb, leb}
 use borrow.Author.Tests.{leb-true}
 use Rattle.query.specs.Choice.{pick}
-use Rattle.query.specs.Fields.{Read, refused, value, andThen, number, field, items}
+use Rattle.query.specs.Fields.{Read, refused, value, andThen, number, field, items, storing, section}
 use Rattle.query.specs.Query.{UpTo}
 
 abbrev pub Gives : {A : Type 0} → (A → List ℕ → Type 0) → Read A → Type 0
@@ -70,6 +70,27 @@ pub field-then :
     {B : Type 0} (Q : B → List ℕ → Type 0) (w fault low high : ℕ) (l : List ℕ) (next : ℕ → List ℕ → Read B) → (1 ≤ fault) × (fault ≤ 5) →
     ((v : ℕ) (r : List ℕ) → Held w low high l v r → Gives Q (next v r)) → Gives Q (andThen (field w fault low high l) next)
 field-then Q w fault low high l next h = gives-then _ Q (field w fault low high l) next (field-held w fault low high l h)
+
+-- Every reading by it gives Q, in w bytes.
+abbrev pub Holds : {T : Type 0} → (T → Type 0) → ℕ → (List ℕ → Read T) → Type 0
+Holds Q w read = (l : List ℕ) → Gives (λ t r. Q t × (r ≡ drop w l)) (read l)
+
+-- A thing that has Q, stored so that P stays.
+pub gives-storing :
+    {A T : Type 0} (Q : T → Type 0) (P : A → Type 0) (w : ℕ) (read : List ℕ → Read T) (store : ℕ → A → T → A) → Holds Q w read →
+    ((i : ℕ) (a : A) (t : T) → Q t → P a → P (store i a t)) → (i : ℕ) (a : A) (l : List ℕ) → P a → Has P (storing read store i a l)
+unfolding storing
+gives-storing Q P w read store holds keep i a l h = gives-then _ _ (read l) _ (holds l) λ t r q. keep i a t (q .0) h
+
+-- A section of such items: P holds from its count on.
+pub gives-section :
+    {A T : Type 0} (Q : T → Type 0) (P : A → Type 0) (w low high : ℕ) (start : ℕ → A) (read : List ℕ → Read T) (store : ℕ → A → T → A) → Holds Q w read →
+    ((n : ℕ) → (low ≤ n) × (n ≤ high) → P (start n)) → ((i : ℕ) (a : A) (t : T) → Q t → P a → P (store i a t)) → (l : List ℕ) →
+    Has P (section low high start (storing read store) l)
+unfolding section
+gives-section Q P w low high start read store holds first keep l =
+    field-then _ 1 2 low high l _ (omega arith) λ n m c.
+    gives-items P (storing read store) (gives-storing Q P w read store holds keep) n 0 (start n) m (first n (c .low-most, c .high-most))
 
 -- A list up to a limit stays so with a number up to the limit put at any place.
 pub set-up-to : (limit : ℕ) (l : List ℕ) (i v : ℕ) → v ≤ limit → UpTo limit l → UpTo limit (set l i v)

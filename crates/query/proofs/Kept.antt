@@ -13,35 +13,22 @@ use Rattle.relations.specs.Code.{Drawn}
 use Rattle.relations.proofs.Drawing.{tree-of}
 use Rattle.query.specs.declared.sections.Outcome.{Outcome}
 use Rattle.query.specs.declared.sections.Outcome.the-variants.{Whole}
-use Rattle.query.specs.declared.Sites.{Sites}
-use Rattle.query.specs.declared.Relations.{Relations}
 use Rattle.query.specs.Fields.{Read, value}
-use Rattle.query.specs.Decode.{sitesSection, relationsSection, joinsSection}
+use Rattle.query.specs.Decode.{joinsSection}
 use Rattle.query.specs.Code.{readOf}
 use Rattle.query.proofs.Gives.{Has}
-use Rattle.query.proofs.Ranges.{SitesIn, sites-in, RelationsIn, relations-in, JoinsIn, joins-in}
+use Rattle.query.proofs.Ranges.{JoinsIn, joins-in}
 
 -- A section's answer, read whole, has what its definition gives.
-whole-in : {A : Type 0} (P : A → Type 0) (x : Read A) → Has P x → (o : Outcome) (a : A) (used : ℕ) (l : List ℕ) → readOf o a used l ≡ x → o ≡ Whole → P a
-whole-in P x has o a used l e h =
-    let f : value a (drop used l) ≡ x = rw h at e in
-    rw (sym f) at has
-
--- Each of the first three sections, read whole, keeps to what the next one asks.
 module _ (o : Outcome) (used : ℕ) (l : List ℕ) (whole : o ≡ Whole) where
-  pub sites-kept : (a : Sites) → readOf o a used l ≡ sitesSection l → (1 ≤ a .count) × (a .count ≤ 8)
-  sites-kept a e =
-      let k = whole-in SitesIn _ (sites-in l) o a used l e whole in
-      (k .some, k .most)
-
-  pub relations-kept : (s : ℕ) (a : Relations) → readOf o a used l ≡ relationsSection s l → (1 ≤ a .count) × (a .count ≤ 9)
-  relations-kept s a e =
-      let k = whole-in (RelationsIn s) _ (relations-in s l) o a used l e whole in
-      (k .some, k .most)
+  pub kept : {A : Type 0} (P : A → Type 0) (x : Read A) → Has P x → (a : A) → readOf o a used l ≡ x → P a
+  kept P x has a e =
+      let f : value a (drop used l) ≡ x = rw whole at e in
+      rw (sym f) at has
 
   pub joins-kept : (n : ℕ) (J : Joins) → (1 ≤ n) × (n ≤ 9) → readOf o J used l ≡ joinsSection n l → Drawn J × (J .count + 1 ≡ n)
   joins-kept n J b e =
-      let k = whole-in (JoinsIn n) _ (joins-in n l) o J used l e whole in
+      let k = kept (JoinsIn n) _ (joins-in n l) J e in
       (record { few = omega arith; first-in = λ i h. omega (arith, k .firsts i); second-in = λ i h. omega (arith, k .seconds i) }, omega arith)
 
 -- Joins that can be grown along, and that reach every relation, make a tree.

@@ -6,7 +6,7 @@ pub mod Linked
 pub mod Indexed
 pub mod Parts
 pub mod Reading
-pub mod TermsTwo
+pub mod ItemLaws
 pub mod Loops
 pub mod SectionLaws
 pub mod LineLaws

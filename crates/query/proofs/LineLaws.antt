@@ -11,16 +11,16 @@ use mir.Val.{Fits}
 use borrow.Author.Tests.{eq-eqb, ne-eqb}
 use Rattle.query.specs.declared.Lines.{Lines}
 use Rattle.query.specs.declared.fields.Field.{Field}
-use Rattle.query.specs.declared.fields.Field.the-variants.{Value, Refused}
+use Rattle.query.specs.declared.fields.Field.the-variants.{Value}
 use Rattle.query.specs.declared.items.TermsRead.{TermsRead}
 use Rattle.query.specs.declared.items.TermsRead.the-variants as of-terms
 use Rattle.query.specs.declared.sections.Outcome.{Outcome}
 use Rattle.query.specs.declared.sections.Outcome.the-variants as outcome
-use Rattle.query.specs.Fields.{Read, refused, value, andThen, countField, items}
-use Rattle.query.specs.Decode.{Terms, terms, noLines, withLine, line, sender, linesSection}
-use Rattle.query.specs.Code.{fieldOf, faultOf, termsOf, termsFault, readOf}
-use Rattle.query.proofs.Reading.{field-value, field-no}
-use Rattle.query.proofs.TermsTwo.{terms-value, terms-no}
+use Rattle.query.specs.Fields.{Read, refused, value, countField, items, storing}
+use Rattle.query.specs.Decode.{terms, noLines, withLine, line, sender, linesSection}
+use Rattle.query.specs.Code.{fieldOf, termsOf, termsFault, readOf}
+use Rattle.query.proofs.Reading.{field-value}
+use Rattle.query.proofs.ItemLaws.{terms-value, terms-no}
 use Rattle.query.proofs.Loops.{stored-no, stored-on, items-done, items-no, items-on}
 
 -- The receivers of sender a.
@@ -33,7 +33,7 @@ module _ (answer : Read Lines) (a s b at : ℕ) (ls : Lines) (l : List ℕ) wher
   unfolding line
   own e p = rw (eq-eqb a b e)
 
-  other : (a ≡ b → ⊥) → (p : List ℕ) → line a b ls p ≡ andThen (terms p) (λ t r. value (withLine a b ls t) r)
+  other : (a ≡ b → ⊥) → (p : List ℕ) → line a b ls p ≡ storing terms (withLine a) b ls p
   unfolding line
   other e p = rw (ne-eqb a b e)
 
@@ -45,14 +45,13 @@ module _ (answer : Read Lines) (a s b at : ℕ) (ls : Lines) (l : List ℕ) wher
     pub line-no :
         (m k : ℕ) → m ≡ termsFault t → t ≡ of-terms.Refused k → t ≡ termsOf (terms p) → p ≡ drop at l → (a ≡ b → ⊥) →
         answer ≡ items (line a) (s - b) b ls (drop at l) → b < s → refused m ≡ answer
-    line-no m k f h e q d so less = stored-no terms (withLine a b) (line a) answer s b at ls l p (other d p) q so less m (terms-no p t m k f h e)
+    line-no m k f h e q d so less = stored-no terms (withLine a) (line a) answer s b at ls l p (other d p) q so less m (terms-no p t m k f h e)
 
     pub line-on :
         (x y z : ℕ) → t ≡ of-terms.Terms x y z → t ≡ termsOf (terms p) → p ≡ drop at l → (a ≡ b → ⊥) → answer ≡ items (line a) (s - b) b ls (drop at l) → b < s →
         answer ≡ items (line a) (s - (b + 1)) (b + 1) (withLine a b ls (record { flag = x; fixed = y; rate = z })) (drop (at + 9) l)
     line-on x y z h e q d so less =
-        stored-on terms (withLine a b) (line a) answer s b at ls l p (other d p) q so less (record { flag = x; fixed = y; rate = z }) 9 (at + 9) refl
-        (terms-value p t x y z e h)
+        stored-on terms (withLine a) (line a) answer s b at ls l p (other d p) q so less _ 9 (terms-value p t x y z e h)
 
 pub ruleset of-sender = (sender-start, line-own, line-no, line-on, items-done)
 
@@ -63,12 +62,6 @@ pairs-fit s h =
     record { fits = omega arith }
 
 -- The senders.
-pub lines-cut :
-    (s : ℕ) (l : List ℕ) (f : Field) (n k : ℕ) → n ≡ faultOf f → f ≡ Refused k → f ≡ fieldOf (countField (s * (s - 1)) (s * (s - 1)) l) →
-    refused n ≡ linesSection s l
-unfolding linesSection
-lines-cut s l f n k e h g = rw (field-no (countField (s * (s - 1)) (s * (s - 1)) l) n k f e h g)
-
 pub lines-start :
     (s : ℕ) (l : List ℕ) (f : Field) (v : ℕ) (ls : Lines) → f ≡ fieldOf (countField (s * (s - 1)) (s * (s - 1)) l) → f ≡ Value v → ls ≡ noLines →
     linesSection s l ≡ items (sender s) (s - 0) 0 ls (drop 1 l)
@@ -91,4 +84,4 @@ module _ (answer : Read Lines) (s a at used : ℕ) (ls new : Lines) (l p : List 
       let r : drop used p ≡ drop (at + used) l = ap (drop used) q ∙ drop-drop used at l in
       items-on (sender s) answer s a ls (drop at l) new (drop (at + used) l) so less (ap (sender s a ls) (sym q) ∙ sym f ∙ ap (value new) r)
 
-pub ruleset of-lines = (lines-cut, lines-start, pairs-fit, sender-no, sender-on, items-done)
+pub ruleset of-lines = (lines-start, pairs-fit, sender-no, sender-on, items-done)

@@ -6,7 +6,7 @@ use mathlib.Core.Path.{_≡_, sym, ap, _∙_}
 use mathlib.Core.List.{List}
 use lib.ListN.{drop}
 use lib.Seq.{drop-drop}
-use Rattle.query.specs.Fields.{Read, refused, value, andThen, items}
+use Rattle.query.specs.Fields.{Read, refused, value, items, storing}
 
 one-fewer : (n i : ℕ) → i < n → n - i ≡ suc (n - (i + 1))
 one-fewer n i h = omega arith
@@ -36,12 +36,14 @@ module _ {A : Type 0} (item : ℕ → A → List ℕ → Read A) (answer : Read 
       f ∙ rw (e, add-one)
 
 -- The same where an item reads one thing of a fixed width w and stores it, the loop standing at a place of the file.
-module _ {A T : Type 0} (read : List ℕ → Read T) (store : A → T → A) (item : ℕ → A → List ℕ → Read A) (answer : Read A) (n i at : ℕ) (a : A) (l p : List ℕ)
-    (is : item i a p ≡ andThen (read p) (λ t r. value (store a t) r)) (q : p ≡ drop at l) (so : answer ≡ items item (n - i) i a (drop at l)) (h : i < n) where
+module _ {A T : Type 0} (read : List ℕ → Read T) (store : ℕ → A → T → A) (item : ℕ → A → List ℕ → Read A) (answer : Read A) (n i at : ℕ) (a : A) (l p : List ℕ)
+    (is : item i a p ≡ storing read store i a p) (q : p ≡ drop at l) (so : answer ≡ items item (n - i) i a (drop at l)) (h : i < n) where
   pub stored-no : (k : ℕ) → read p ≡ refused k → refused k ≡ answer
+  unfolding storing
   stored-no k e = items-no item answer n i a (drop at l) k so h (ap (item i a) (sym q) ∙ is ∙ rw e)
 
-  pub stored-on : (t : T) (w next : ℕ) → next ≡ at + w → read p ≡ value t (drop w p) → answer ≡ items item (n - (i + 1)) (i + 1) (store a t) (drop next l)
-  stored-on t w next m e =
-      let s : drop w p ≡ drop next l = ap (drop w) q ∙ drop-drop w at l ∙ ap (λ (k : ℕ). drop k l) (sym m) in
-      items-on item answer n i a (drop at l) (store a t) (drop next l) so h (ap (item i a) (sym q) ∙ is ∙ rw (e, s))
+  pub stored-on : (t : T) (w : ℕ) → read p ≡ value t (drop w p) → answer ≡ items item (n - (i + 1)) (i + 1) (store i a t) (drop (at + w) l)
+  unfolding storing
+  stored-on t w e =
+      let s : drop w p ≡ drop (at + w) l = ap (drop w) q ∙ drop-drop w at l in
+      items-on item answer n i a (drop at l) (store i a t) (drop (at + w) l) so h (ap (item i a) (sym q) ∙ is ∙ rw (e, s))

@@ -8,9 +8,9 @@ use borrow.Author.Tests.{lt-ltb, le-ltb, le-leb, lt-leb}
 use Rattle.relations.proofs.Leads.{clash}
 use Rattle.query.specs.declared.fields.Field.{Field}
 use Rattle.query.specs.declared.fields.Field.the-variants.{Value, Refused}
-use Rattle.query.specs.Fields.{Read, refused, value, number, field, countField}
+use Rattle.query.specs.Fields.{Read, refused, value, andThen, number, field}
 use Rattle.query.specs.Code.{fieldOf, faultOf}
-use Rattle.query.proofs.Gives.{field-cases, field-held}
+use Rattle.query.proofs.Gives.{Gives, field-cases}
 
 -- The four ways through a field.
 module _ (w fault low high : ℕ) (l : List ℕ) where
@@ -37,11 +37,31 @@ abbrev pub left : {A : Type 0} → Read A → List ℕ
 left (refused k) = []
 left (value a r) = r
 
--- A reading is told by the code's answer and by what is left.
-module _ {A C : Type 0} (answer : Read A → C) (back : C → List ℕ → Read A) (told : (x : Read A) → x ≡ back (answer x) (left x)) where
-  pub read-by : (x : Read A) (f g : C) → f ≡ answer x → f ≡ g → x ≡ back g (left x)
+-- A reading that ends with a value leaves what follows its w bytes.
+abbrev pub Leaves : {T : Type 0} → ℕ → List ℕ → Read T → Type 0
+Leaves w l (refused k) = Unit
+Leaves w l (value t r) = r ≡ drop w l
+
+pub leaves : {T : Type 0} (P : T → Type 0) (w : ℕ) (l : List ℕ) (x : Read T) → Gives (λ t r. P t × (r ≡ drop w l)) x → Leaves w l x
+leaves P w l (refused k) h = tt
+leaves P w l (value t r) h = h .1
+
+-- A reading is told by the code's answer and by what is left: it is the value that the answer has, or its refusal.
+module _ {T C : Type 0} (answer : Read T → C) (back : C → List ℕ → Read T) (told : (x : Read T) → x ≡ back (answer x) (left x)) where
+  read-by : (x : Read T) (f g : C) → f ≡ answer x → f ≡ g → x ≡ back g (left x)
   read-by x f g e h = told x ∙ ap (λ (y : C). back y (left x)) (sym e ∙ h)
 
+  pub whole-by :
+      (w : ℕ) (l : List ℕ) (x : Read T) → Leaves w l x → (f g : C) (t : T) → f ≡ answer x → f ≡ g → ((r : List ℕ) → back g r ≡ value t r) → x ≡ value t (drop w l)
+  whole-by w l x rest f g t e h is =
+      let y : x ≡ value t (left x) = read-by x f g e h ∙ is (left x) in
+      y ∙ ap (value t) (rw y at rest)
+
+  pub no-by :
+      (fault : C → ℕ) (x : Read T) (f g : C) (n : ℕ) → n ≡ fault f → f ≡ g → f ≡ answer x → ((r : List ℕ) → back g r ≡ refused (fault g)) → x ≡ refused n
+  no-by fault x f g n e h a is = read-by x f g a h ∙ is (left x) ∙ ap refused (sym (e ∙ ap fault h))
+
+-- A field's reading.
 abbrev readField : Field → List ℕ → Read ℕ
 readField (Value v) r = value v r
 readField (Refused k) r = refused k
@@ -50,16 +70,33 @@ read-field : (x : Read ℕ) → x ≡ readField (fieldOf x) (left x)
 read-field (refused k) = refl
 read-field (value v r) = refl
 
-field-rest : (w fault low high v : ℕ) (l : List ℕ) → (let x = field w fault low high l in x ≡ value v (left x) → x ≡ value v (drop w l))
-field-rest w fault low high v l =
-    field-cases (λ x. x ≡ value v (left x) → x ≡ value v (drop w l)) w fault low high l (λ e. absurd (clash (cc))) (λ e. absurd (clash (cc))) (λ a b e. e)
-
 pub field-value : (w fault low high v : ℕ) (l : List ℕ) (f : Field) → f ≡ fieldOf (field w fault low high l) → f ≡ Value v → field w fault low high l ≡ value v (drop w l)
-field-value w fault low high v l f e h = field-rest w fault low high v l (read-by fieldOf readField read-field _ f (Value v) e h)
+field-value w fault low high v l f e h =
+    whole-by fieldOf readField read-field w l _ (field-cases (Leaves w l) w fault low high l tt tt (λ a b. refl)) f (Value v) v e h (λ r. refl)
 
 pub field-no : (x : Read ℕ) (n k : ℕ) (f : Field) → n ≡ faultOf f → f ≡ Refused k → f ≡ fieldOf x → x ≡ refused n
-field-no x n k f e h g = read-by fieldOf readField read-field x f (Refused k) g h ∙ ap refused (sym (e ∙ ap faultOf h))
+field-no x n k f e h g = no-by fieldOf readField read-field faultOf x f (Refused k) n e h g (λ r. refl)
 
--- A count that was read is up to its limit.
-pub count-most : (low high v : ℕ) (l : List ℕ) (f : Field) → f ≡ fieldOf (countField low high l) → f ≡ Value v → v ≤ high
-count-most low high v l f e h = (rw (field-value 1 2 low high v l f e h) at (field-held 1 2 low high l (omega arith))) .high-most
+-- A field that was read is up to its limit.
+pub field-most : (w fault low high v : ℕ) (l : List ℕ) (f : Field) → f ≡ fieldOf (field w fault low high l) → f ≡ Value v → v ≤ high
+field-most w fault low high v l f e h =
+    let up-to : Read ℕ → Type 0 = λ x. (u : ℕ) (r : List ℕ) → x ≡ value u r → u ≤ high in
+    field-cases up-to w fault low high l (λ u r q. absurd (clash (cc))) (λ u r q. absurd (clash (cc))) (λ a b u r q. let i : number w l ≡ u = cc in omega arith) v (drop w l)
+    (field-value w fault low high v l f e h)
+
+-- A chain of fields, to what the code answers for it: a refused field ends it, one that is read goes on behind its bytes.
+module _ {B C : Type 0} (answer : Read B → C) (w fault low high : ℕ) (l : List ℕ) (next : ℕ → List ℕ → Read B) (f : Field) (e : f ≡ fieldOf (field w fault low high l)) where
+  pub chain-no : (n k : ℕ) → n ≡ faultOf f → f ≡ Refused k → answer (refused n) ≡ answer (andThen (field w fault low high l) next)
+  chain-no n k g h = rw (field-no (field w fault low high l) n k f g h e)
+
+  pub chain-last : (v : ℕ) (c : C) → f ≡ Value v → c ≡ answer (next v (drop w l)) → c ≡ answer (andThen (field w fault low high l) next)
+  chain-last v c h g = g ∙ rw (field-value w fault low high v l f e h)
+
+  pub chain-on : (v : ℕ) (p : List ℕ) (c : C) → f ≡ Value v → p ≡ drop w l → c ≡ answer (next v p) → c ≡ answer (andThen (field w fault low high l) next)
+  chain-on v p c h q g = g ∙ rw (field-value w fault low high v l f e h, q)
+
+-- A section whose count is refused.
+pub count-cut :
+    {B : Type 0} (w fault low high : ℕ) (l : List ℕ) (next : ℕ → List ℕ → Read B) (f : Field) → f ≡ fieldOf (field w fault low high l) → (n k : ℕ) → n ≡ faultOf f →
+    f ≡ Refused k → refused n ≡ andThen (field w fault low high l) next
+count-cut w fault low high l next f e n k g h = chain-no (λ x. x) w fault low high l next f e n k g h

@@ -31,17 +31,17 @@ file-in file =
     gives-then _ _ (deliverySection (sites .count) p) _ (delivery-in (sites .count) p) λ target r ti.
     pick-all (Has Valid) (eqb (length r) 0) _ (refused 5)
     (λ whole. record {
-      sites-some = si .some;
-      sites-most = si .most;
-      relations-most = ri .most;
+      sites-some = si .counts .0;
+      sites-most = si .counts .1;
+      relations-most = ri .counts .1;
       tree = record {
-        joins = omega (arith, ji .count-is, ri .some);
-        first-in = λ i h. omega (arith, ji .firsts i, ri .some);
-        second-in = λ i h. omega (arith, ji .seconds i, ri .some);
+        joins = omega (arith, ji .counts, ri .counts);
+        first-in = λ i h. omega (arith, ji .firsts i, ri .counts);
+        second-in = λ i h. omega (arith, ji .seconds i, ri .counts);
         reached = reached;
       };
-      homes = λ i h. omega (arith, ri .homes i, si .some);
-      target-in = omega (arith, ti, si .some);
+      homes = λ i h. omega (arith, ri .homes i, si .counts);
+      target-in = omega (arith, ti, si .counts);
       sizes-most = zi;
       join-fixed-most = si .fixed-most;
       join-rate-most = si .rate-most;

@@ -10,7 +10,7 @@ use Rattle.query.specs.declared.Relations.{Relations}
 use Rattle.query.specs.declared.Lines.{Lines}
 use Rattle.query.specs.declared.Query.{Query}
 use Rattle.query.specs.Choice.{pick}
-use Rattle.query.specs.Fields.{Read, refused, value, andThen, field, countField, byteBelow, amountUpTo, items}
+use Rattle.query.specs.Fields.{Read, refused, value, andThen, field, countField, byteBelow, amountUpTo, items, storing, section}
 
 -- The flag, fixed amount and rate of a site or a line.
 pub record Terms : Type 0 where
@@ -39,11 +39,8 @@ noSites s = record { count = s; may = replicate 8 0; fixed = replicate 8 0; rate
 abbrev pub withSite : ℕ → Sites → Terms → Sites
 withSite i a t = record { count = a .count; may = set (a .may) i (t .flag); fixed = set (a .fixed) i (t .fixed); rate = set (a .rate) i (t .rate) }
 
-unfoldable pub site : ℕ → Sites → List ℕ → Read Sites
-site i a l = andThen (terms l) (λ t l. value (withSite i a t) l)
-
 unfoldable pub sitesSection : List ℕ → Read Sites
-sitesSection l = andThen (countField 1 8 l) (λ s l. items site s 0 (noSites s) l)
+sitesSection = section 1 8 noSites (storing terms withSite)
 
 -- Relations, count n from 1 to 9: home site byte, index flag.
 abbrev pub noRelations : ℕ → Relations
@@ -52,11 +49,8 @@ noRelations n = record { count = n; home = replicate 9 0; index = replicate 9 0 
 abbrev pub withRelation : ℕ → Relations → Two → Relations
 withRelation i a t = record { count = a .count; home = set (a .home) i (t .one); index = set (a .index) i (t .other) }
 
-unfoldable pub relation : ℕ → ℕ → Relations → List ℕ → Read Relations
-relation s i a l = andThen (two s 2 l) (λ t l. value (withRelation i a t) l)
-
 unfoldable pub relationsSection : ℕ → List ℕ → Read Relations
-relationsSection s l = andThen (countField 1 9 l) (λ n l. items (relation s) n 0 (noRelations n) l)
+relationsSection s = section 1 9 noRelations (storing (two s 2) withRelation)
 
 -- Joins, count n - 1: first relation, second relation.
 abbrev pub noJoins : ℕ → Joins
@@ -65,15 +59,15 @@ noJoins m = record { count = m; first = replicate 8 0; second = replicate 8 0 }
 abbrev pub withJoin : ℕ → Joins → Two → Joins
 withJoin i a t = record { count = a .count; first = set (a .first) i (t .one); second = set (a .second) i (t .other) }
 
-unfoldable pub join : ℕ → ℕ → Joins → List ℕ → Read Joins
-join n i a l = andThen (two n n l) (λ t l. value (withJoin i a t) l)
-
 unfoldable pub joinsSection : ℕ → List ℕ → Read Joins
-joinsSection n l = andThen (countField (n - 1) (n - 1) l) (λ m l. items (join n) m 0 (noJoins m) l)
+joinsSection n = section (n - 1) (n - 1) noJoins (storing (two n n) withJoin)
 
 -- Sizes, count = number of subqueries, in two bytes: an amount each, ascending subquery number.
+abbrev pub withSize : ℕ → List ℕ → ℕ → List ℕ
+withSize S a v = set a S v
+
 unfoldable pub sized : Joins → ℕ → ℕ → List ℕ → List ℕ → Read (List ℕ)
-sized J n S a l = pick (isSubquery J n S) (andThen (amountUpTo 1_000_000_000 l) (λ v l. value (set a S v) l)) (value a l)
+sized J n S a l = pick (isSubquery J n S) (storing (amountUpTo 1_000_000_000) withSize S a l) (value a l)
 
 unfoldable pub sizesSection : Joins → ℕ → List ℕ → Read (List ℕ)
 sizesSection J n l = andThen (field 2 2 (subqueries J n) (subqueries J n) l) (λ m l. items (sized J n) (2 ^ n) 0 (replicate 512 0) l)
@@ -88,7 +82,7 @@ withLine a b ls t =
     record { flag = set (ls .flag) (8 * a + b) (t .flag); fixed = set (ls .fixed) (8 * a + b) (t .fixed); rate = set (ls .rate) (8 * a + b) (t .rate) }
 
 unfoldable pub line : ℕ → ℕ → Lines → List ℕ → Read Lines
-line a b ls l = pick (eqb a b) (value ls l) (andThen (terms l) (λ t l. value (withLine a b ls t) l))
+line a b ls l = pick (eqb a b) (value ls l) (storing terms (withLine a) b ls l)
 
 unfoldable pub sender : ℕ → ℕ → Lines → List ℕ → Read Lines
 sender s a ls l = items (line a) s 0 ls l

@@ -41,3 +41,11 @@ amountUpTo limit l = field 4 3 0 limit l
 unfoldable pub items : {A : Type 0} → (ℕ → A → List ℕ → Read A) → ℕ → ℕ → A → List ℕ → Read A
 items item zero i a l = value a l
 items item (suc k) i a l = andThen (item i a l) (λ b r. items item k (suc i) b r)
+
+-- An item that is one thing, read and then stored at its place i in what the section has.
+unfoldable pub storing : {A T : Type 0} → (List ℕ → Read T) → (ℕ → A → T → A) → ℕ → A → List ℕ → Read A
+storing read store i a l = andThen (read l) (λ t r. value (store i a t) r)
+
+-- A section of as many items as its count says, which is from low to high.
+unfoldable pub section : {A : Type 0} → (low high : ℕ) → (ℕ → A) → (ℕ → A → List ℕ → Read A) → List ℕ → Read A
+section low high start item l = andThen (countField low high l) (λ n r. items item n 0 (start n) r)

@@ -17,13 +17,14 @@ use crate::sections::read_sites;
 use crate::sizes::read_sizes;
 use relations::Joins;
 use relations::count_subqueries;
+use relations::join_table;
 use relations::reaches;
 ghost use Prim.Native.Nat.{_+_, _≤_};
 ghost use mathlib.Core.Path.{_≡_};
-ghost use Rattle.relations.specs.Trees.{subqueries};
+ghost use Rattle.relations.specs.Trees.{Tree, subqueries};
 ghost use Rattle.relations.specs.Code.{Drawn};
-ghost use Rattle.query.specs.Fields.{refused};
-ghost use Rattle.query.specs.Decode.{afterLines, afterSizes, afterJoins, afterRelations, afterSites, decode};
+ghost use Rattle.query.specs.Fields.{refused, andThen};
+ghost use Rattle.query.specs.Decode.{sizesSection, afterLines, afterSizes, afterJoins, afterRelations, afterSites, decode};
 ghost use Rattle.query.specs.Code.{outcomeFault, noQuery, decodedOf};
 
 // A decoded file: the query and its number of subqueries, or a refusal and nothing else.
@@ -111,7 +112,7 @@ fn after_relations(part: &[u8], sites: Sites, relations: Relations) -> Decoded
     after_joins(part, sites, relations, read.joins)
 }
 
-// After the last join, the tree test; then the sizes, as many as the tree has subqueries, which are counted once.
+// After the last join, the tree test.
 fn after_joins(part: &[u8], sites: Sites, relations: Relations, joins: Joins) -> Decoded
     requires { ⌜ (1 ≤ sites .count) × (sites .count ≤ 8) ⌝ }
     requires { ⌜ Drawn joins × (joins .count + 1 ≡ relations .count) ⌝ }
@@ -120,8 +121,19 @@ fn after_joins(part: &[u8], sites: Sites, relations: Relations, joins: Joins) ->
     if !reaches(joins) {
         return refused(4);
     }
-    let due = count_subqueries(joins);
-    let read = read_sizes(part, joins, due);
+    after_tree(part, sites, relations, joins)
+}
+
+// Where the joins make a tree, the sizes, as many as it has subqueries. Which sets these are is worked out once.
+fn after_tree(part: &[u8], sites: Sites, relations: Relations, joins: Joins) -> Decoded
+    requires { ⌜ (1 ≤ sites .count) × (sites .count ≤ 8) ⌝ }
+    requires { ⌜ (joins .count ≤ 8) × Tree joins (joins .count + 1) ⌝ }
+    requires { ⌜ joins .count + 1 ≡ relations .count ⌝ }
+    ensures { λ r. ⌜ r ≡ decodedOf (andThen (sizesSection joins (joins .count + 1) (now (part .entry))) (afterSizes sites relations joins)) ⌝ }
+{
+    let table = join_table(joins);
+    let due = count_subqueries(joins, &table);
+    let read = read_sizes(part, joins, &table, due);
     let o = read.outcome;
     let Outcome::Whole = o else {
         return refused(outcome_fault(o));

@@ -34,11 +34,13 @@ pub(crate) fn read_terms(part: &[u8]) -> TermsRead
     let Field::Value(flag) = a else {
         return TermsRead::Refused(fault(a));
     };
-    let b = amount_up_to(part_from(part, 1), MOST_FIXED);
+    let part = part_from(part, 1);
+    let b = amount_up_to(part, MOST_FIXED);
     let Field::Value(fixed) = b else {
         return TermsRead::Refused(fault(b));
     };
-    let c = amount_up_to(part_from(part, 5), MOST_RATE);
+    let part = part_from(part, 4);
+    let c = amount_up_to(part, MOST_RATE);
     let Field::Value(rate) = c else {
         return TermsRead::Refused(fault(c));
     };
@@ -54,7 +56,8 @@ pub(crate) fn read_two(part: &[u8], a: usize, b: usize) -> TwoRead
     let Field::Value(one) = x else {
         return TwoRead::Refused(fault(x));
     };
-    let y = byte_below(part_from(part, 1), b);
+    let part = part_from(part, 1);
+    let y = byte_below(part, b);
     let Field::Value(other) = y else {
         return TwoRead::Refused(fault(y));
     };

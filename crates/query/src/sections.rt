@@ -94,9 +94,10 @@ pub(crate) fn read_sites(part: &[u8]) -> SitesRead
     };
     let count = n as usize;
     let mut sites = no_sites(count);
+    let mut at = 1;
     let mut i = 0;
     while i < count {
-        let t = read_terms(part_from(part, 1 + 9 * i));
+        let t = read_terms(part_from(part, at));
         let TermsRead::Terms { flag, fixed, rate } = t else {
             return SitesRead {
                 outcome: Outcome::Refused(terms_fault(t)),
@@ -107,11 +108,12 @@ pub(crate) fn read_sites(part: &[u8]) -> SitesRead
         sites.may[i] = flag;
         sites.fixed[i] = fixed;
         sites.rate[i] = rate;
+        at += 9;
         i += 1;
     }
     SitesRead {
         outcome: Outcome::Whole,
-        used: 1 + 9 * i,
+        used: at,
         sites,
     }
 }
@@ -131,9 +133,10 @@ pub(crate) fn read_relations(part: &[u8], s: usize) -> RelationsRead
     };
     let count = n as usize;
     let mut relations = no_relations(count);
+    let mut at = 1;
     let mut i = 0;
     while i < count {
-        let t = read_two(part_from(part, 1 + 2 * i), s, 2);
+        let t = read_two(part_from(part, at), s, 2);
         let TwoRead::Two { one, other } = t else {
             return RelationsRead {
                 outcome: Outcome::Refused(two_fault(t)),
@@ -143,11 +146,12 @@ pub(crate) fn read_relations(part: &[u8], s: usize) -> RelationsRead
         };
         relations.home[i] = one as usize;
         relations.index[i] = other;
+        at += 2;
         i += 1;
     }
     RelationsRead {
         outcome: Outcome::Whole,
-        used: 1 + 2 * i,
+        used: at,
         relations,
     }
 }
@@ -168,9 +172,10 @@ pub(crate) fn read_joins(part: &[u8], n: usize) -> JoinsRead
     };
     let count = m as usize;
     let mut joins = no_joins(count);
+    let mut at = 1;
     let mut i = 0;
     while i < count {
-        let t = read_two(part_from(part, 1 + 2 * i), n, n);
+        let t = read_two(part_from(part, at), n, n);
         let TwoRead::Two { one, other } = t else {
             return JoinsRead {
                 outcome: Outcome::Refused(two_fault(t)),
@@ -180,11 +185,12 @@ pub(crate) fn read_joins(part: &[u8], n: usize) -> JoinsRead
         };
         joins.first[i] = one as usize;
         joins.second[i] = other as usize;
+        at += 2;
         i += 1;
     }
     JoinsRead {
         outcome: Outcome::Whole,
-        used: 1 + 2 * i,
+        used: at,
         joins,
     }
 }

@@ -6,12 +6,12 @@ use crate::fields::part_from;
 use crate::fields::read_field;
 use crate::sections::Outcome;
 use relations::Joins;
-use relations::ends;
-use relations::is_subquery;
+use relations::is_connected;
 use relations::single;
-ghost use Prim.Native.Nat.{_+_, _≤_};
+ghost use Prim.Native.Nat.{_+_};
 ghost use mathlib.Core.Path.{_≡_};
-ghost use Rattle.relations.specs.Trees.{Tree, subqueries};
+ghost use Rattle.relations.specs.Trees.{subqueries};
+ghost use Rattle.relations.specs.Table.{Tabled};
 ghost use Rattle.query.specs.Decode.{sizesSection};
 ghost use Rattle.query.specs.Code.{readOf};
 
@@ -24,9 +24,9 @@ pub struct SizesRead {
     pub sizes: [u64; 512],
 }
 
-// The sizes of the subqueries of a tree, which are due in number.
-pub(crate) fn read_sizes(part: &[u8], joins: Joins, due: usize) -> SizesRead
-    requires { ⌜ (joins .count ≤ 8) × Tree joins (joins .count + 1) ⌝ }
+// The sizes of the subqueries of a tree, which are due in number, by its table.
+pub(crate) fn read_sizes(part: &[u8], joins: Joins, table: &[u32; 512], due: usize) -> SizesRead
+    requires { ⌜ Tabled joins (now table) ⌝ }
     requires { ⌜ due ≡ subqueries joins (joins .count + 1) ⌝ }
     ensures { λ r. ⌜ readOf (r .outcome) (r .sizes) (r .used) (now (part .entry)) ≡ sizesSection joins (joins .count + 1) (now (part .entry)) ⌝ }
 {
@@ -39,13 +39,11 @@ pub(crate) fn read_sizes(part: &[u8], joins: Joins, due: usize) -> SizesRead
             sizes,
         };
     };
-    let around = ends(joins);
-    let end = single(joins.count + 1);
     let mut at = 2;
     let mut set = 0;
-    while set < end {
+    while set < single(joins.count + 1) {
         let next = set + 1;
-        if is_subquery(&around, joins.count, set) {
+        if is_connected(table[set]) {
             let v = amount_up_to(part_from(part, at), MOST_SIZE);
             let Field::Value(size) = v else {
                 return SizesRead {

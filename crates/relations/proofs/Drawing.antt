@@ -33,6 +33,13 @@ drawn-of J d few q t =
 pub tree-of : (J : Joins) (t : Bool) → Drawn J → t ≡ reaches J (J .count + 1) → t ≡ true → Tree J (J .count + 1)
 tree-of J t d q h = record { joins = refl; first-in = d .first-in; second-in = d .second-in; reached = sym q ∙ h }
 
+-- The relations of a join are bits of a word.
+pub first-low : (J : Joins) (e : ℕ) → Drawn J → e < J .count → first J e < 64
+first-low J e d l = omega (arith, d .few, d .first-in e l)
+
+pub second-low : (J : Joins) (e : ℕ) → Drawn J → e < J .count → second J e < 64
+second-low J e d l = omega (arith, d .few, d .second-in e l)
+
 -- Growth within all relations may start from each.
 pub single-growable : (J : Joins) (r S A : ℕ) → Drawn J → r < J .count + 1 → S ≡ all (J .count + 1) → A ≡ 2 ^ r → Growable J S A
 single-growable J r S A d h p q =

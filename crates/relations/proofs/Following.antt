@@ -9,11 +9,12 @@ use Rattle.relations.specs.Sets.{Sub}
 use Rattle.relations.specs.Growth.{along, grow}
 use Rattle.relations.specs.Code.{Drawn, Ends, Growable, FirstLeading}
 use Rattle.relations.proofs.Counts.{ones-mono}
+use Rattle.relations.proofs.Drawing.{first-low, second-low}
 use Rattle.relations.proofs.Leads.{Leads, leads-means, along-within, ones-along}
 use Rattle.relations.proofs.Growth.{closed-of-none, grow-still, grow-add}
 
 pub ends-low : (J : Joins) (e : ℕ) → Drawn J → e < J .count → Ends J e
-ends-low J e d l = record { low = omega (arith, d .few); first-low = omega (arith, d .few, d .first-in e l); second-low = omega (arith, d .few, d .second-in e l) }
+ends-low J e d l = record { low = omega (arith, d .few); first-low = first-low J e d l; second-low = second-low J e d l }
 
 module _ (J : Joins) (S x A e : ℕ) (g : Growable J S A) (f : FirstLeading J S x A e) where
   pub grow-done : J .count ≤ e → A ≡ grow J S x (J .count + 1) A

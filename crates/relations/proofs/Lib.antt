@@ -1,4 +1,8 @@
+pub mod Listed
 pub mod Turns
+pub mod Upper
+pub mod Entries
+pub mod Doubling
 pub mod Following
 pub mod Drawing
 pub mod Bits

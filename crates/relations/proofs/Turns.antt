@@ -1,41 +1,23 @@
 -- What the code's loops and calls lean on: one turn of each loop is one step of the definition that the loop computes.
-use Prim.Native.Nat.{ℕ, zero, suc, _+_, _^_, _≤_, _<_}
-use mathlib.Core.Path.{_≡_, refl, sym, ap, _∙_}
+use Prim.Native.Nat.{ℕ, suc, _+_, _^_, _≤_, _<_}
+use mathlib.Core.Path.{_≡_, refl, ap, _∙_}
 use mathlib.Core.Bool.{Bool, true, false, _&&_}
 use mathlib.Core.List.{List}
 use native.Mathlib.Numerals.{add-one}
 use native.Mathlib.Omega.{arith}
-use borrow.Author.Count.{below-none, below-more}
 use borrow.Author.Tests.{eqb-true, eqb-false, eq-eqb, ne-eqb}
 use lib.Bits.{bitAnd}
-use lib.Count.{ones}
 use lib.Dec.{eqb, ltb}
-use lib.ListN.{length, getD, set, length-set}
+use lib.ListN.{getD}
 use lib.Pow.{pow-mono}
-use lib.Seq.{getD-set-same, getD-set-other}
 use Rattle.relations.specs.declared.Joins.{Joins}
 use Rattle.relations.specs.Sets.{bit, put, Sub}
 use Rattle.relations.specs.Growth.{first, second, inside}
-use Rattle.relations.specs.Trees.{isSubquery, countBelow, subqueries, joinsIn, Tree}
-use Rattle.relations.specs.Code.{endsOf, tally, wholeIn, subqueryBy, endsBelow, Drawn, Row, EndsOf}
+use Rattle.relations.specs.Trees.{isSubquery, countBelow, subqueries}
+use Rattle.relations.specs.Code.{endsOf, tally, endsBelow}
+use Rattle.relations.specs.Table.{Tabled, isConnected}
 use Rattle.relations.proofs.Bits.{bit-le, bit-and, and-of-sub, bit-pow, bit-put, sub-single}
-use Rattle.relations.proofs.SubqueryCount.{subquery-by-count}
-
--- A list that has g at the places below k, with g stored at k.
-pub set-next :
-    (l : List ℕ) (g : ℕ → ℕ) (k v : ℕ) → k < length l → ((i : ℕ) → i < k → getD l i 0 ≡ g i) → v ≡ g k → (i : ℕ) → i < k + 1 → getD (set l k v) i 0 ≡ g i
-set-next l g k v long below here =
-    below-more (λ (i : ℕ). getD (set l k v) i 0 ≡ g i) k (λ i h. getD-set-other l k i v 0 (λ q. omega arith) ∙ below i h) (getD-set-same l k v 0 long ∙ here)
-
--- A row, filled from its first entry on.
-pub row-none : (l : List ℕ) (g : ℕ → ℕ) → length l ≡ 8 → Row l g 0
-row-none l g h = record { eight = h; each = below-none _ }
-
-pub row-more : (l : List ℕ) (g : ℕ → ℕ) (k s v : ℕ) → Row l g k → k < s → s ≤ 8 → v ≡ g k → Row (set l k v) g (k + 1)
-row-more l g k s v r h m e = record { eight = length-set l k v ∙ r .eight; each = set-next l g k v (omega (arith, r .eight)) (r .each) e }
-
-pub row-done : (l : List ℕ) (g : ℕ → ℕ) (k s : ℕ) → Row l g k → s ≤ k → Row l g s
-row-done l g k s r h = record { eight = r .eight; each = λ i below. r .each i (omega arith) }
+use Rattle.relations.proofs.Entries.{tested}
 
 tally-is : (d : Bool) (n : ℕ) → _≡_ {A = ℕ} (elim d [ true ↦ suc n | false ↦ n ]) (tally d n)
 tally-is true n = refl
@@ -45,20 +27,12 @@ subqueries-next : (J : Joins) (n S : ℕ) → countBelow J n (suc S) ≡ tally (
 unfolding countBelow
 subqueries-next J n S = tally-is (isSubquery J n S) (countBelow J n S)
 
--- One join more: the joins in a set by their ends, and the joins whose ends are in range.
-pub whole-more : (l : List ℕ) (S e n r : ℕ) (d : Bool) → n ≡ wholeIn l S e → d ≡ eqb (bitAnd S (getD l e 0)) (getD l e 0) → r ≡ tally d n → r ≡ wholeIn l S (e + 1)
-unfolding wholeIn
-whole-more l S e n r d p q h = rw (add-one, h, q, p)
-
+-- One join more: the joins whose ends are in range.
 pub ends-more : (J : Joins) (n e : ℕ) (d : Bool) → d ≡ endsBelow J n e → (d && (ltb (first J e) n && ltb (second J e) n)) ≡ endsBelow J n (e + 1)
 unfolding endsBelow
 ends-more J n e d p = rw (add-one, p)
 
--- The test of a set by the ends of its joins is the definition's, in a tree.
-pub subquery-test : (l : List ℕ) (m S k : ℕ) → k ≡ wholeIn l S m → (ltb 0 S && eqb (k + 1) (ones S)) ≡ subqueryBy l m S
-unfolding subqueryBy
-subquery-test l m S k q = rw q
-
+-- A join lies in a set where the set masked by its ends is the ends.
 pub ends-in : (J : Joins) (S e : ℕ) → eqb (bitAnd S (endsOf J e)) (endsOf J e) ≡ inside J S e
 unfolding inside endsOf
 ends-in J S e = go (eqb (bit S (first J e) + bit S (second J e)) 2) refl
@@ -90,44 +64,29 @@ ends-in J S e = go (eqb (bit S (first J e) + bit S (second J e)) 2) refl
         eqb-false (bit S f + bit S s) 2 p
         (omega (arith, ap (λ (x : ℕ). bit x f) q, ap (λ (x : ℕ). bit x s) q, bit-and S M f, bit-and S M s, has-first, has-second, bit-le S f, bit-le S s))
 
-whole-joins : (J : Joins) (l : List ℕ) (S m : ℕ) → EndsOf J l m → wholeIn l S m ≡ joinsIn J S m
-unfolding wholeIn joinsIn
-whole-joins J l S zero h = refl
-whole-joins J l S (suc m) h =
-    rw (h .each m (omega arith), ends-in J S m, whole-joins J l S m (row-done l (endsOf J) (suc m) m h (omega arith))) (sym (tally-is (inside J S m) (joinsIn J S m)))
-
-pub subquery-by-ends : (J : Joins) (l : List ℕ) (S : ℕ) → Tree J (J .count + 1) → EndsOf J l (J .count) → S < 2 ^ (J .count + 1) → subqueryBy l (J .count) S ≡ isSubquery J (J .count + 1) S
-unfolding subqueryBy
-subquery-by-ends J l S t h k = rw (whole-joins J l S (J .count) h) (sym (subquery-by-count J (J .count + 1) t S k))
-
--- A test by the ends, as a loop over the sets below e has it.
-pub tested :
-    (J : Joins) (l : List ℕ) (S e : ℕ) (d : Bool) → Tree J (J .count + 1) → EndsOf J l (J .count) → d ≡ subqueryBy l (J .count) S → S < e →
-    e ≡ 2 ^ (J .count + 1) → d ≡ isSubquery J (J .count + 1) S
-tested J l S e d t h q k w = q ∙ subquery-by-ends J l S t h (omega arith)
-
-pub tree-drawn : (J : Joins) → J .count ≤ 8 → Tree J (J .count + 1) → Drawn J
-tree-drawn J h t = record { few = h; first-in = t .first-in; second-in = t .second-in }
-
 -- One join's ends.
 pub ends-are : (J : Joins) (e v w : ℕ) → v ≡ 2 ^ first J e → w ≡ put v (second J e) → w ≡ endsOf J e
 unfolding endsOf
 ends-are J e v w q z = z ∙ ap (λ (x : ℕ). put x (second J e)) q
 
--- One set more: the subqueries below it.
+-- No set, one set more, and all of them: the subqueries below.
+pub subqueries-none : (J : Joins) (n : ℕ) → 0 ≡ countBelow J n 0
+unfolding countBelow
+subqueries-none J n = refl
+
 pub subqueries-more :
-    (J : Joins) (l : List ℕ) (S m r e : ℕ) (d : Bool) → Tree J (J .count + 1) → EndsOf J l (J .count) → m ≡ countBelow J (J .count + 1) S →
-    d ≡ subqueryBy l (J .count) S → r ≡ tally d m → S < e → e ≡ 2 ^ (J .count + 1) → r ≡ countBelow J (J .count + 1) (S + 1)
-subqueries-more J l S m r e d t h p q z k w =
-    let i = tested J l S e d t h q k w in
+    (J : Joins) (l : List ℕ) (S m r e : ℕ) (d : Bool) → Tabled J l → m ≡ countBelow J (J .count + 1) S → d ≡ isConnected (getD l S 0) → r ≡ tally d m → S < e →
+    e ≡ 2 ^ (J .count + 1) → r ≡ countBelow J (J .count + 1) (S + 1)
+subqueries-more J l S m r e d t p q z k w =
+    let i = tested J l S e d t q k w in
     cc (add-one S, subqueries-next J (J .count + 1) S)
 
-pub subqueries-done : (J : Joins) (n S m end : ℕ) → m ≡ countBelow J n S → S ≤ end → end ≤ S → end ≡ 2 ^ n → m ≡ subqueries J n
+pub subqueries-done : (J : Joins) (n S m end : ℕ) → m ≡ countBelow J n S → S ≤ 2 ^ n → end ≤ S → end ≡ 2 ^ n → m ≡ subqueries J n
 subqueries-done J n S m end p l h q = let last : S ≡ 2 ^ n = omega arith in cc
 
 -- The sets of at most nine relations are few.
-pub few-sets : (m s : ℕ) → m ≤ 8 → s ≡ 2 ^ (m + 1) → s ≤ 512
-few-sets m s h q = let most : 2 ^ (m + 1) ≤ 2 ^ 9 = pow-mono {j = 9} (omega arith) in omega arith
+pub few-sets : (m : ℕ) → m ≤ 8 → 2 ^ (m + 1) ≤ 512
+few-sets m h = pow-mono {j = 9} (omega arith)
 
 pub below-512 : (S n : ℕ) → n ≤ 9 → S < 2 ^ n → S < 512
 below-512 S n l h = omega (arith, pow-mono l)

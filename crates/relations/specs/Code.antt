@@ -3,10 +3,8 @@ use Prim.Native.Nat.{ℕ, zero, suc, _+_, _^_, _≤_, _<_}
 use mathlib.Core.Path.{_≡_}
 use mathlib.Core.Bool.{Bool, true, false, _&&_}
 use mathlib.Core.List.{List}
-use lib.Bits.{bitAnd}
-use lib.Count.{ones}
 use lib.ListN.{length, getD}
-use lib.Dec.{eqb, leb, ltb}
+use lib.Dec.{leb, ltb}
 use Rattle.relations.specs.declared.Joins.{Joins}
 use Rattle.relations.specs.Sets.{Sub, put}
 use Rattle.relations.specs.Growth.{first, second, leads}
@@ -36,14 +34,14 @@ pub record FirstLeading (J : Joins) (S x A e : ℕ) : Type 0 where
   pub below : (i : ℕ) → i < e → leads J S x A i ≡ false
   pub found : e < J .count → leads J S x A e ≡ true
 
--- The first m of eight entries are g 0, g 1, ..
-pub record Row (l : List ℕ) (g : ℕ → ℕ) (m : ℕ) : Type 0 where
-  pub eight : length l ≡ 8
+-- The first m of n entries are g 0, g 1, ..
+pub record Listed (l : List ℕ) (g : ℕ → ℕ) (n m : ℕ) : Type 0 where
+  pub long : length l ≡ n
   pub each : (i : ℕ) → i < m → getD l i 0 ≡ g i
 
 -- The sides of the first m joins.
 abbrev pub SidesOf : Joins → List ℕ → ℕ → Type 0
-SidesOf J l m = Row l (side J (J .count + 1)) m
+SidesOf J l m = Listed l (side J (J .count + 1)) 8 m
 
 -- The two relations of join e, as a set.
 unfoldable pub endsOf : Joins → ℕ → ℕ
@@ -51,22 +49,12 @@ endsOf J e = put (2 ^ first J e) (second J e)
 
 -- The two relations of each of the first m joins.
 abbrev pub EndsOf : Joins → List ℕ → ℕ → Type 0
-EndsOf J l m = Row l (endsOf J) m
+EndsOf J l m = Listed l (endsOf J) 8 m
 
 -- One more where the test holds.
 abbrev pub tally : Bool → ℕ → ℕ
 tally true n = suc n
 tally false n = n
-
--- How many of the first m entries of a list lie in S whole.
-unfoldable pub wholeIn : List ℕ → ℕ → ℕ → ℕ
-wholeIn l S zero = 0
-wholeIn l S (suc m) = tally (eqb (bitAnd S (getD l m 0)) (getD l m 0)) (wholeIn l S m)
-
--- The test of a set by the ends of the m joins: it is not empty and holds one join fewer than relations. For a tree it is `isSubquery`:
--- `subquery-by-ends` in proofs/.
-unfoldable pub subqueryBy : List ℕ → ℕ → ℕ → Bool
-subqueryBy l m S = ltb 0 S && eqb (wholeIn l S m + 1) (ones S)
 
 -- The ends of the first m joins are below n.
 unfoldable pub endsBelow : Joins → ℕ → ℕ → Bool

@@ -3,3 +3,4 @@ pub mod Growth
 pub mod Trees
 pub mod Theorems
 pub mod Code
+pub mod Table

@@ -2,6 +2,7 @@
 mod growing;
 mod member;
 mod subquery;
+mod table;
 mod tree;
 
 pub use member::bit;
@@ -11,7 +12,10 @@ pub use member::within;
 pub use subquery::count_subqueries;
 pub use subquery::counted;
 pub use subquery::ends;
-pub use subquery::is_subquery;
+pub use table::is_connected;
+pub use table::join_table;
+pub use table::joins_in;
+pub use table::relations_in;
 pub use tree::reaches;
 pub use tree::sides;
 

@@ -2,12 +2,14 @@
 use crate::Joins;
 use crate::member::single;
 use crate::member::with;
-use crate::member::within;
+use crate::table::is_connected;
+use crate::table::join_table;
 use crate::tree::reaches;
 ghost use Prim.Native.Nat.{_+_, _^_, _≤_, _<_};
 ghost use mathlib.Core.Path.{_≡_};
-ghost use Rattle.relations.specs.Trees.{subqueries, Tree};
-ghost use Rattle.relations.specs.Code.{Drawn, EndsOf, wholeIn, subqueryBy, tally, endsBelow, counted};
+ghost use Rattle.relations.specs.Trees.{subqueries};
+ghost use Rattle.relations.specs.Code.{Drawn, EndsOf, tally, endsBelow, counted};
+ghost use Rattle.relations.specs.Table.{Tabled};
 
 // One more where the test holds.
 fn tally(yes: bool, n: usize) -> usize
@@ -34,40 +36,15 @@ pub fn ends(joins: Joins) -> [usize; 8]
     found
 }
 
-// How many joins lie in the set, by their ends.
-fn joins_in(ends: &[usize; 8], count: usize, set: usize) -> usize
-    requires { ⌜ count ≤ 8 ⌝ }
-    ensures { λ r. ⌜ (r ≡ wholeIn (now (ends .entry)) set count) × (r ≤ 8) ⌝ }
-{
-    let mut n = 0;
-    let mut e = 0;
-    while e < count {
-        n = tally(within(set, ends[e]), n);
-        e += 1;
-    }
-    n
-}
-
-// The set is a subquery of the tree whose joins have these ends.
-pub fn is_subquery(ends: &[usize; 8], count: usize, set: usize) -> bool
-    requires { ⌜ count ≤ 8 ⌝ }
-    ensures { λ r. ⌜ r ≡ subqueryBy (now (ends .entry)) count set ⌝ }
-{
-    let relations = usize::count_ones(set) as usize;
-    (0 < set) & (joins_in(ends, count, set) + 1 == relations)
-}
-
-// The number of subqueries of a tree.
-pub fn count_subqueries(joins: Joins) -> usize
-    requires { ⌜ (joins .count ≤ 8) × Tree joins (joins .count + 1) ⌝ }
+// The number of subqueries of a tree, by its table.
+pub fn count_subqueries(joins: Joins, table: &[u32; 512]) -> usize
+    requires { ⌜ Tabled joins (now table) ⌝ }
     ensures { λ r. ⌜ r ≡ subqueries joins (joins .count + 1) ⌝ }
 {
-    let around = ends(joins);
-    let end = single(joins.count + 1);
     let mut n = 0;
     let mut set = 0;
-    while set < end {
-        n = tally(is_subquery(&around, joins.count, set), n);
+    while set < single(joins.count + 1) {
+        n = tally(is_connected(table[set]), n);
         set += 1;
     }
     n
@@ -100,7 +77,8 @@ pub fn counted(joins: Joins) -> usize
     }
     if drawn(joins) {
         if reaches(joins) {
-            count_subqueries(joins)
+            let table = join_table(joins);
+            count_subqueries(joins, &table)
         } else {
             0
         }

@@ -9,7 +9,7 @@ use mathlib.Core.List.{List}
 use lib.Count.{ones, trailingZeros}
 use lib.Dec.{eqb}
 use lib.ListN.{getD}
-use Rattle.relations.specs.Code.{Row}
+use Rattle.relations.specs.Code.{Listed}
 use Rattle.query.specs.Choice.{pick}
 use Rattle.solver.specs.declared.cells.Choice.{Choice}
 use Rattle.solver.specs.Code.{noneMark, leastOf, placeOf, ChoiceOf, Lent, lent, baseAt, joinTrial, joinedBelow, bareAt, startAt, Marked, siteTrial, siteAt, Lists, siteBy, Choosable}
@@ -40,7 +40,7 @@ start-most l homes may base S m k = go (eqb (ones S) 1) (eqb k (getD homes (trai
 
 -- The row that a set starts from, as the choice of a site takes it.
 module _ (l : Lists) (S x : ℕ) (row : List ℕ) (p : Choosable l S) (size-is : x ≡ getD (l .sizes) S 0)
-    (r : Row row (startAt (lent (l .work) (l .ends) (l .sides)) (l .home) (l .may) (baseAt (l .fixed) (l .rate) x) S (l .joins)) (l .sites)) where
+    (r : Listed row (startAt (lent (l .work) (l .ends) (l .sides)) (l .home) (l .may) (baseAt (l .fixed) (l .rate) x) S (l .joins)) 8 (l .sites)) where
   pub row-most : Marked row (l .sites)
   row-most = record { few = p .joinable .few-sites; each = λ k h. rw (r .each k h) (start-most _ (l .home) (l .may) _ S (l .joins) k) }
 

@@ -2,29 +2,18 @@
 use Prim.Native.Nat.{ℕ, _+_, _*_, _/_, _%_, _^_, _≤_, _<_, zero-le}
 use native.Mathlib.Nat.{le-refl}
 use native.Mathlib.Omega.{arith}
-use mathlib.Core.Path.{_≡_, refl, _∙_}
+use mathlib.Core.Path.{_≡_, refl}
 use mathlib.Core.Bool.{Bool, true, false}
 use mathlib.Core.List.{List}
-use lib.ListN.{length, getD, set, length-set, replicate, List·getD-eq-default}
-use lib.Dec.{eqb, ltb}
-use borrow.Author.Tests.{ltb-true, ltb-false}
-use Rattle.relations.proofs.Turns.{set-next}
+use lib.ListN.{getD}
+use lib.Dec.{eqb}
+use Rattle.relations.proofs.Listed.{listed-most}
 use Rattle.query.specs.declared.Query.{Query}
 use Rattle.query.specs.Choice.{pick}
 use Rattle.query.specs.Cost.{none, some}
-use Rattle.query.specs.Query.{Valid, UpTo, isOpen, lineFixed, lineRate, size}
+use Rattle.query.specs.Query.{Valid, isOpen, lineFixed, lineRate, size}
 use Rattle.query.specs.Prices.{linePrice, carriage}
-use Rattle.solver.specs.Code.{noneMark, mark, Listed, carriageFixed, carriageRate, carriageAt, Priced, CarriagesOf}
-
--- A list of 64, filled from its first entry on.
-pub listed-none : (g : ℕ → ℕ) → Listed (replicate 64 0) g 64 0
-listed-none g = record { long = refl; each = λ j h. absurd (omega arith) }
-
-pub listed-more : (l : List ℕ) (g : ℕ → ℕ) (i v : ℕ) → Listed l g 64 i → i < 64 → v ≡ g i → Listed (set l i v) g 64 (i + 1)
-listed-more l g i v h low e = record { long = length-set l i v ∙ h .long; each = set-next l g i v (omega (arith, h .long)) (h .each) e }
-
-pub listed-done : (l : List ℕ) (g : ℕ → ℕ) (i : ℕ) → Listed l g 64 i → 64 ≤ i → Listed l g 64 64
-listed-done l g i h le = record { long = h .long; each = λ j low. h .each j (omega arith) }
+use Rattle.solver.specs.Code.{noneMark, mark, carriageFixed, carriageRate, carriageAt, Priced, CarriagesOf}
 
 -- What a line has, by its place.
 pub carriage-fixed-at : (flag fixed : List ℕ) (i v : ℕ) → v ≡ pick (eqb (i / 8) (i % 8)) 0 (pick (eqb (getD flag i 0) 1) (getD fixed i 0) (2 ^ 60)) → v ≡ carriageFixed flag fixed i
@@ -40,14 +29,6 @@ pick-most : (s o : Bool) (a b n : ℕ) → a ≤ n → b ≤ n → pick s 0 (pic
 pick-most true o a b n h g = omega arith
 pick-most false true a b n h g = h
 pick-most false false a b n h g = g
-
--- Past its end a list has no amount.
-listed-most : (l : List ℕ) (g : ℕ → ℕ) (n most : ℕ) → Listed l g n n → ((i : ℕ) → g i ≤ most) → UpTo most l
-listed-most l g n most h each i = go (ltb i n) refl
-  where
-    go : (t : Bool) → ltb i n ≡ t → getD l i 0 ≤ most
-    go true low = rw (h .each i (ltb-true i n low)) (each i)
-    go false past = rw (List·getD-eq-default l 0 {n = i} (omega (arith, h .long, ltb-false i n past))) zero-le
 
 module _ (q : Query) (fixed rate : List ℕ) (w : CarriagesOf q fixed rate) where
   -- Each carriage over them is the definition's.

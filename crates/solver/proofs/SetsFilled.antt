@@ -16,7 +16,7 @@ use mir.Val.{Fits}
 use Rattle.relations.specs.declared.Joins.{Joins}
 use Rattle.relations.specs.Sets.{all}
 use Rattle.relations.specs.Trees.{isSubquery, Subquery, Tree}
-use Rattle.relations.specs.Code.{Drawn, EndsOf, subqueryBy, Row}
+use Rattle.relations.specs.Code.{Drawn, EndsOf, subqueryBy, Listed}
 use Rattle.relations.proofs.Turns.{tested}
 use Rattle.relations.proofs.Counts.{ones-zero}
 use Rattle.relations.proofs.Connected.{subquery-range}
@@ -176,7 +176,7 @@ module _ (q : Query) (v : Valid q) where
 
       -- Its cells from its row.
       module _ (x : ℕ) (size-is : x ≡ getD (q .sizes) S 0) (row : List ℕ)
-          (r : Row row (startAt (lent work ends sides) (q .relations .home) (q .sites .may) (baseAt (q .sites .fixed) (q .sites .rate) x) S (q .joins .count)) (sitesOf q))
+          (r : Listed row (startAt (lent work ends sides) (q .relations .home) (q .sites .may) (baseAt (q .sites .fixed) (q .sites .rate) x) S (q .joins .count)) 8 (sitesOf q))
           (fixed rate : List ℕ) (carriages : CarriagesOf q fixed rate) where
         row-here : (k : ℕ) → k < sitesOf q → getD row k 0 ≡ mark (startCost q S k)
         row-here k m = r .each k m ∙ rw size-is (row-started q v work ends sides masks S (g .cells) (subquery-here S d test held) k m)

@@ -12,8 +12,8 @@ use lib.Count.{ones, trailingZeros}
 use lib.Seq.{getD-set-same, getD-set-other}
 use lib.Dec.{eqb}
 use borrow.Author.Tests.{eq-eqb, ne-eqb, eqb-true, eqb-false}
-use Rattle.relations.specs.Code.{Row}
-use Rattle.relations.proofs.Turns.{set-next, row-done}
+use Rattle.relations.specs.Code.{Listed}
+use Rattle.relations.proofs.Listed.{set-next, listed-done}
 use Rattle.query.specs.Choice.{pick}
 use Rattle.query.specs.Query.{UpTo}
 use Rattle.solver.specs.declared.cells.Choice.{Choice}
@@ -35,9 +35,9 @@ unfolding baseAt
 base-at fixed rate size k v e = e
 
 pub bases-done : (fixed rate l : List ℕ) (size k s : ℕ) → UpTo 1_000_000 fixed → UpTo 1_000 rate → size ≤ 1_000_000_000 →
-    Row l (baseAt fixed rate size) k → s ≤ k → s ≤ 8 → Row l (baseAt fixed rate size) s × Marked l s
+    Listed l (baseAt fixed rate size) 8 k → s ≤ k → s ≤ 8 → Listed l (baseAt fixed rate size) 8 s × Marked l s
 bases-done fixed rate l size k s f r z row h few =
-    (row-done l (baseAt fixed rate size) k s row h, record { few = few; each = λ i g. rw (row .each i (omega arith)) (base-most fixed rate size i (f i) (r i) z) })
+    (listed-done l (baseAt fixed rate size) 8 k s row h, record { few = few; each = λ i g. rw (row .each i (omega arith)) (base-most fixed rate size i (f i) (r i) z) })
 
 -- A row that is tried against new figures from its first site on.
 pub record TriedTo (old new : List ℕ) (g : ℕ → ℕ) (k : ℕ) : Type 0 where
@@ -77,27 +77,27 @@ module _ (l : Lent) (S : ℕ) where
   unfolding joinTrial
   trial-out base k e h = rw h
 
-  pub joined-none : (base : ℕ → ℕ) (s : ℕ) → s ≤ 8 → Row (replicate 8 (2 ^ 60)) (joinedBelow l base S 0) s
+  pub joined-none : (base : ℕ → ℕ) (s : ℕ) → s ≤ 8 → Listed (replicate 8 (2 ^ 60)) (joinedBelow l base S 0) 8 s
   unfolding joinedBelow leastOf
-  joined-none base s h = record { eight = refl; each = λ k g. getD-replicate 8 k noneMark 0 (omega arith) }
+  joined-none base s h = record { long = refl; each = λ k g. getD-replicate 8 k noneMark 0 (omega arith) }
 
-  pub joined-more : (base : ℕ → ℕ) (e s : ℕ) (row new : List ℕ) → Row row (joinedBelow l base S e) s → joinIn l S e ≡ true →
-      Tried row new (λ (k : ℕ). trialOf (l .work) (base k) (partBy l S e) (S - partBy l S e) k) s → Row new (joinedBelow l base S (e + 1)) s
+  pub joined-more : (base : ℕ → ℕ) (e s : ℕ) (row new : List ℕ) → Listed row (joinedBelow l base S e) 8 s → joinIn l S e ≡ true →
+      Tried row new (λ (k : ℕ). trialOf (l .work) (base k) (partBy l S e) (S - partBy l S e) k) s → Listed new (joinedBelow l base S (e + 1)) 8 s
   unfolding joinedBelow leastOf
   joined-more base e s row new r within t =
-      rw (add-one e) (record { eight = t .eight; each = λ k h. t .each k h ∙ rw (r .each k h, trial-in (base k) k e within) })
+      rw (add-one e) (record { long = t .eight; each = λ k h. t .each k h ∙ rw (r .each k h, trial-in (base k) k e within) })
 
-  pub joined-same : (base : ℕ → ℕ) (e s : ℕ) (row : List ℕ) → Row row (joinedBelow l base S e) s → joinIn l S e ≡ false → Row row (joinedBelow l base S (e + 1)) s
+  pub joined-same : (base : ℕ → ℕ) (e s : ℕ) (row : List ℕ) → Listed row (joinedBelow l base S e) 8 s → joinIn l S e ≡ false → Listed row (joinedBelow l base S (e + 1)) 8 s
   unfolding joinedBelow leastOf
   joined-same base e s row r out =
       rw (add-one e)
       (record {
-        eight = r .eight;
+        long = r .long;
         each = λ k h. r .each k h
             ∙ lesser-kept (joinTrial l (base k) S k e) (leastOf (joinTrial l (base k) S k) e) (omega (arith, trial-out (base k) k e out, least-most (joinTrial l (base k) S k) e));
       })
 
-  pub row-same : (base : ℕ → ℕ) (e m s : ℕ) (row : List ℕ) → Row row (joinedBelow l base S e) s → e ≤ m → m ≤ e → Row row (joinedBelow l base S m) s
+  pub row-same : (base : ℕ → ℕ) (e m s : ℕ) (row : List ℕ) → Listed row (joinedBelow l base S e) 8 s → e ≤ m → m ≤ e → Listed row (joinedBelow l base S m) 8 s
   row-same base e m s row r h g = rw (le-antisymm h g) at r
 
   -- The joins at one site.
@@ -109,21 +109,21 @@ module _ (l : Lent) (S : ℕ) where
   join-worse base k e kept c out = choice-same (joinTrial l base S k) e kept c (trial-out base k e out)
 
 -- The row of one relation, and the row that a subquery starts from.
-pub bare-row : (h : ℕ) → h < 8 → Row (set (replicate 8 (2 ^ 60)) h 0) (bareAt h) 8
+pub bare-row : (h : ℕ) → h < 8 → Listed (set (replicate 8 (2 ^ 60)) h 0) (bareAt h) 8 8
 unfolding bareAt
-bare-row h low = record { eight = length-set (replicate 8 noneMark) h 0; each = λ k g. go k g (eqb k h) refl }
+bare-row h low = record { long = length-set (replicate 8 noneMark) h 0; each = λ k g. go k g (eqb k h) refl }
   where
     go : (k : ℕ) → k < 8 → (t : Bool) → eqb k h ≡ t → getD (set (replicate 8 noneMark) h 0) k 0 ≡ pick t 0 noneMark
     go k g true e = rw (eqb-true k h e) (getD-set-same (replicate 8 noneMark) h 0 0 low)
     go k g false e = getD-set-other (replicate 8 noneMark) h k 0 0 (eqb-false k h e) ∙ getD-replicate 8 k noneMark 0 g
 
 module _ (l : Lent) (homes may : List ℕ) (base : ℕ → ℕ) (S m s : ℕ) where
-  pub start-bare : (h : ℕ) (row : List ℕ) → s ≤ 8 → ones S ≡ 1 → h ≡ getD homes (trailingZeros 64 S) 0 → Row row (bareAt h) 8 → Row row (startAt l homes may base S m) s
+  pub start-bare : (h : ℕ) (row : List ℕ) → s ≤ 8 → ones S ≡ 1 → h ≡ getD homes (trailingZeros 64 S) 0 → Listed row (bareAt h) 8 8 → Listed row (startAt l homes may base S m) 8 s
   unfolding startAt
-  start-bare h row few one is r = record { eight = r .eight; each = λ k g. r .each k (omega arith) ∙ rw (eq-eqb (ones S) 1 one, is) }
+  start-bare h row few one is r = record { long = r .long; each = λ k g. r .each k (omega arith) ∙ rw (eq-eqb (ones S) 1 one, is) }
 
-  pub start-joined : (charges tried row : List ℕ) → (ones S ≡ 1 → ⊥) → Row charges base s → Row tried (joinedBelow l (λ (k : ℕ). getD charges k 0) S m) s →
-      Row row (permittedAt may tried) s → Row row (startAt l homes may base S m) s
+  pub start-joined : (charges tried row : List ℕ) → (ones S ≡ 1 → ⊥) → Listed charges base 8 s → Listed tried (joinedBelow l (λ (k : ℕ). getD charges k 0) S m) 8 s →
+      Listed row (permittedAt may tried) 8 s → Listed row (startAt l homes may base S m) 8 s
   unfolding startAt permittedAt joinedBelow
   start-joined charges tried row more b t r =
-      record { eight = r .eight; each = λ k g. r .each k g ∙ rw (ne-eqb (ones S) 1 more, t .each k g, b .each k g) }
+      record { long = r .long; each = λ k g. r .each k g ∙ rw (ne-eqb (ones S) 1 more, t .each k g, b .each k g) }

@@ -10,7 +10,7 @@ use lib.Bits.{bitAnd}
 use lib.Count.{ones, trailingZeros}
 use lib.Dec.{eqb, ltb}
 use Rattle.relations.specs.Trees.{Subquery}
-use Rattle.relations.specs.Code.{EndsOf, SidesOf}
+use Rattle.relations.specs.Code.{Listed, EndsOf, SidesOf}
 use Rattle.query.specs.declared.Query.{Query}
 use Rattle.query.specs.Choice.{pick}
 use Rattle.query.specs.Cost.{Cost, none, some, plus}
@@ -58,11 +58,6 @@ pub record ChoiceOf (g : ℕ → ℕ) (m : ℕ) (c : Choice) : Type 0 where
 
 unfoldable pub betterOf : ℕ → ℕ → Choice → Choice
 betterOf new i kept = pick (ltb new (kept .figure)) (record { figure = new; at = i }) kept
-
--- The first m of n entries are g 0, g 1, ..
-pub record Listed (l : List ℕ) (g : ℕ → ℕ) (n m : ℕ) : Type 0 where
-  pub long : length l ≡ n
-  pub each : (i : ℕ) → i < m → getD l i 0 ≡ g i
 
 -- The site where the read of S is spared: the home of a bare relation that has its index, else 8.
 unfoldable pub sparedAt : List ℕ → List ℕ → ℕ → ℕ

@@ -5,7 +5,8 @@ ghost use Prim.Native.Nat.{_/_, _%_};
 ghost use mathlib.Core.Path.{_≡_};
 ghost use lib.Dec.{eqb};
 ghost use Rattle.query.specs.Choice.{pick};
-ghost use Rattle.solver.specs.Code.{Listed, carriageFixed, carriageRate};
+ghost use Rattle.relations.specs.Code.{Listed};
+ghost use Rattle.solver.specs.Code.{carriageFixed, carriageRate};
 
 // Line i goes from site i / 8 to site i % 8: from a site to itself at no charge, and none in the fixed amount where it is closed.
 pub struct Carriages {

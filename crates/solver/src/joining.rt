@@ -14,7 +14,7 @@ ghost use lib.Dec.{eqb};
 ghost use lib.ListN.{length, getD};
 ghost use Rattle.query.specs.Choice.{pick};
 ghost use Rattle.query.specs.Query.{UpTo};
-ghost use Rattle.relations.specs.Code.{Row};
+ghost use Rattle.relations.specs.Code.{Listed};
 ghost use Rattle.solver.specs.Code.{noneMark, lent, Triable, trialOf, Tried, Joinable, HomeLow, baseAt, joinedBelow, joinTrial, Marked, permittedAt, bareAt, startAt, placeOf};
 
 // What a join charges whatever its parts: the fixed amount, and the rate for the size of the result.
@@ -29,7 +29,7 @@ pub(crate) fn base(fixed: u64, rate: u64, size: Bytes) -> u64
 // That at each site.
 fn bases<'a>(fixed: &'a [u64; 8], rate: &'a [u64; 8], size: Bytes, sites: usize) -> [u64; 8]
     requires { ⌜ (sites ≤ 8) × (UpTo 1000000 (now fixed) × (UpTo 1000 (now rate) × (size .0 ≤ 1000000000))) ⌝ }
-    ensures { λ r. ⌜ Row r (baseAt (now (fixed .entry)) (now (rate .entry)) (size .0)) sites × Marked r sites ⌝ }
+    ensures { λ r. ⌜ Listed r (baseAt (now (fixed .entry)) (now (rate .entry)) (size .0)) 8 sites × Marked r sites ⌝ }
 {
     let mut charges = [0u64; 8];
     let mut k = 0;
@@ -81,7 +81,7 @@ fn join_row<'a>(
     set: usize,
 ) -> [u64; 8]
     requires { ⌜ Joinable (lent (now work) (now ends) (now sides)) set joins sites × Marked (now charges) sites ⌝ }
-    ensures { λ r. ⌜ Row r (joinedBelow (lent (now (work .entry)) (now (ends .entry)) (now (sides .entry))) (λ (k : ℕ). getD (now (charges .entry)) k 0) set joins) sites ⌝ }
+    ensures { λ r. ⌜ Listed r (joinedBelow (lent (now (work .entry)) (now (ends .entry)) (now (sides .entry))) (λ (k : ℕ). getD (now (charges .entry)) k 0) set joins) 8 sites ⌝ }
 {
     let mut row = [NONE; 8];
     let mut e = 0;
@@ -107,7 +107,7 @@ fn if_may(may: u64, figure: u64) -> u64
 // The row with none at each site that may not join.
 fn permitted(row: [u64; 8], may: &[u64; 8], sites: usize) -> [u64; 8]
     requires { ⌜ (sites ≤ 8) × (length row ≡ 8) ⌝ }
-    ensures { λ r. ⌜ Row r (permittedAt (now (may .entry)) row) sites ⌝ }
+    ensures { λ r. ⌜ Listed r (permittedAt (now (may .entry)) row) 8 sites ⌝ }
 {
     let mut allowed = [NONE; 8];
     let mut k = 0;
@@ -121,7 +121,7 @@ fn permitted(row: [u64; 8], may: &[u64; 8], sites: usize) -> [u64; 8]
 // The row of one relation: nothing at its home, none elsewhere.
 fn bare_row(home: usize) -> [u64; 8]
     requires { ⌜ home < 8 ⌝ }
-    ensures { λ r. ⌜ Row r (bareAt home) 8 ⌝ }
+    ensures { λ r. ⌜ Listed r (bareAt home) 8 8 ⌝ }
 {
     let mut bare = [NONE; 8];
     bare[home] = 0;
@@ -144,7 +144,7 @@ pub(crate) fn start_row<'a, 'b>(
 ) -> [u64; 8]
     requires { ⌜ Joinable (lent (now work) (now ends) (now sides)) set joins sites × HomeLow (now home) set ⌝ }
     requires { ⌜ UpTo 1000000 (now fixed) × (UpTo 1000 (now rate) × (size .0 ≤ 1000000000)) ⌝ }
-    ensures { λ r. ⌜ Row r (startAt (lent (now (work .entry)) (now (ends .entry)) (now (sides .entry))) (now (home .entry)) (now (may .entry)) (baseAt (now (fixed .entry)) (now (rate .entry)) (size .0)) set joins) sites ⌝ }
+    ensures { λ r. ⌜ Listed r (startAt (lent (now (work .entry)) (now (ends .entry)) (now (sides .entry))) (now (home .entry)) (now (may .entry)) (baseAt (now (fixed .entry)) (now (rate .entry)) (size .0)) set joins) 8 sites ⌝ }
 {
     if usize::count_ones(set) == 1 {
         return bare_row(home_of(home, set));

@@ -1,7 +1,7 @@
--- After the last join the tree test comes first. Then the reading goes on with the sizes, or ends with their refusal.
+-- After the last join the tree test comes first.
 use borrow.Author.Needs.{needs}
-use Rattle.query.proofs.Kept.{tree-kept, due-kept}
-use Rattle.query.proofs.FileLaws.{goes-on, ends, not-reached, reached}
+use Rattle.query.proofs.Kept.{tree-kept}
+use Rattle.query.proofs.FileLaws.{not-reached, reached}
 use Rattle.query.proofs.decoding.after_joins.Statement.{statement}
 use Rattle.query.proofs.decoding.after_joins.Tie as tie
 
@@ -12,13 +12,5 @@ after-joins-spec =
     (λ c κs. search needs)
     (λ c κs. search needs)
     (λ c. search (needs, not-reached))
-    (λ c κs. tree-kept _ _ (search needs) (c .before .reaches .ensures) (c .if1 .left))
-    (λ c κs. (tree-kept _ _ (search needs) (c .before .before .reaches .ensures) (c .before .if1 .left), c .count-subqueries .ensures))
-    (λ c. search needs)
-    (λ c. search needs)
-    (λ c κs. search needs)
-    (λ c κs. search needs)
-    (λ c. search (needs, reached, ends))
-    (λ c κs. search needs)
-    (λ c κs. search (needs, due-kept))
-    (λ c. search (needs, reached, goes-on)))
+    (λ c κs. (search needs, (tree-kept _ _ (search needs) (c .before .reaches .ensures) (c .if1 .left), search needs)))
+    (λ c. search (needs, reached)))

@@ -1,6 +1,7 @@
 -- After the sites the reading goes on with the relations, or ends with their refusal.
 use borrow.Author.Needs.{needs}
-use Rattle.query.proofs.Kept.{relations-kept}
+use Rattle.query.proofs.Kept.{kept}
+use Rattle.query.proofs.Ranges.{RelationsIn, relations-in}
 use Rattle.query.proofs.FileLaws.{goes-on, ends}
 use Rattle.query.proofs.decoding.after_sites.Statement.{statement}
 use Rattle.query.proofs.decoding.after_sites.Tie as tie
@@ -16,5 +17,5 @@ after-sites-spec =
     (λ c κs. search needs)
     (λ c. search (needs, ends))
     (λ c κs. search needs)
-    (λ c κs. (search needs, relations-kept _ _ _ (c .before .enum-told .given .1) _ _ (c .before .before .before .read-relations .ensures)))
+    (λ c κs. (search needs, kept _ _ _ (c .before .enum-told .given .1) (RelationsIn _) _ (relations-in _ _) _ (c .before .before .before .read-relations .ensures) .counts))
     (λ c. search (needs, goes-on)))

@@ -1,7 +1,8 @@
 -- `decode` begins with the sites: the reading goes on from where they end, or ends with their refusal.
 use borrow.Author.Needs.{needs}
 use Rattle.query.specs.Decode.{decode}
-use Rattle.query.proofs.Kept.{sites-kept}
+use Rattle.query.proofs.Kept.{kept}
+use Rattle.query.proofs.Ranges.{SitesIn, sites-in}
 use Rattle.query.proofs.FileLaws.{goes-on, ends}
 use Rattle.query.proofs.decoding.decode.Statement.{statement}
 use Rattle.query.proofs.decoding.decode.Tie as tie
@@ -25,5 +26,5 @@ decode-spec =
     (λ c κs. search needs)
     refused-sites
     (λ c κs. search needs)
-    (λ c κs. sites-kept _ _ _ (c .before .enum-told .given .1) _ (c .before .before .before .read-sites .ensures))
+    (λ c κs. kept _ _ _ (c .before .enum-told .given .1) SitesIn _ (sites-in _) _ (c .before .before .before .read-sites .ensures) .counts)
     sites-read)

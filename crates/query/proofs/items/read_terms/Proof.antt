@@ -1,10 +1,13 @@
 -- `read_terms` reads a flag and two amounts, each from where the last one ended.
-use Rattle.query.proofs.TermsTwo.{some-terms}
+use Rattle.query.specs.Decode.{terms}
+use Rattle.query.specs.Code.{termsOf}
+use Rattle.query.proofs.Reading.{chain-no, chain-last, chain-on}
 use borrow.Author.Needs.{needs}
 use Rattle.query.proofs.items.read_terms.Statement.{statement}
 use Rattle.query.proofs.items.read_terms.Tie as tie
 
 pub read-terms-spec : {M : Type 1} → statement M
+unfolding terms
 read-terms-spec =
     tie.close
     (tie.spec
@@ -12,17 +15,17 @@ read-terms-spec =
     (λ c. search needs)
     (λ c. search needs)
     (λ c κs. search needs)
-    (λ c. search (needs, some-terms))
+    (λ c. search (needs, chain-no termsOf, chain-on termsOf))
     (λ c κs. search needs)
     (λ c κs. search needs)
     (λ c. search needs)
     (λ c. search needs)
     (λ c κs. search needs)
-    (λ c. search (needs, some-terms))
+    (λ c. search (needs, chain-no termsOf, chain-on termsOf))
     (λ c κs. search needs)
     (λ c κs. search needs)
     (λ c. search needs)
     (λ c. search needs)
     (λ c κs. search needs)
-    (λ c. search (needs, some-terms))
-    (λ c. search (needs, some-terms)))
+    (λ c. search (needs, chain-no termsOf, chain-on termsOf))
+    (λ c. search (needs, chain-last termsOf, chain-on termsOf)))

@@ -1,10 +1,13 @@
 -- `read_two` reads two bytes, the second from where the first one ended.
-use Rattle.query.proofs.TermsTwo.{some-two}
+use Rattle.query.specs.Decode.{two}
+use Rattle.query.specs.Code.{twoOf}
+use Rattle.query.proofs.Reading.{chain-no, chain-last, chain-on}
 use borrow.Author.Needs.{needs}
 use Rattle.query.proofs.items.read_two.Statement.{statement}
 use Rattle.query.proofs.items.read_two.Tie as tie
 
 pub read-two-spec : {M : Type 1} → statement M
+unfolding two
 read-two-spec =
     tie.close
     (tie.spec
@@ -12,11 +15,11 @@ read-two-spec =
     (λ c. search needs)
     (λ c. search needs)
     (λ c κs. search needs)
-    (λ c. search (needs, some-two))
+    (λ c. search (needs, chain-no twoOf, chain-on twoOf))
     (λ c κs. search needs)
     (λ c κs. search needs)
     (λ c. search needs)
     (λ c. search needs)
     (λ c κs. search needs)
-    (λ c. search (needs, some-two))
-    (λ c. search (needs, some-two)))
+    (λ c. search (needs, chain-no twoOf, chain-on twoOf))
+    (λ c. search (needs, chain-last twoOf, chain-on twoOf)))

@@ -5,6 +5,7 @@ use lib.ListN.{drop}
 use borrow.Author.Needs.{needs}
 use Rattle.query.specs.Fields.{items}
 use Rattle.query.specs.Decode.{sender, linesSection}
+use Rattle.query.proofs.Reading.{count-cut}
 use Rattle.query.proofs.LineLaws.{pairs-fit, sender-on, of-lines}
 use Rattle.query.proofs.line_section.read_lines.Statement.{statement}
 use Rattle.query.proofs.line_section.read_lines.Tie as tie
@@ -16,6 +17,7 @@ abbrev μ-loop : tie.MeasureT-loop
 μ-loop part s due lines₀ at₀ a₀ lines at a = s - a
 
 pub read-lines-spec : {M : Type 1} → statement M
+unfolding linesSection
 read-lines-spec =
     tie.close
     (tie.spec
@@ -28,7 +30,7 @@ read-lines-spec =
     (λ c. search needs)
     (λ c. search needs)
     (λ c κs. search needs)
-    (λ c. search (needs, of-lines))
+    (λ c. search (needs, count-cut))
     (λ c. search (needs, of-lines))
     (λ c κs. search needs)
     (λ c κs. search needs)

@@ -1,10 +1,13 @@
 -- `read_delivery` reads the section Delivery: a count of 1 and the query site.
-use Rattle.query.proofs.SectionLaws.{of-delivery}
+use Rattle.query.specs.Decode.{deliverySection}
+use Rattle.query.proofs.Reading.{count-cut}
+use Rattle.query.proofs.SectionLaws.{delivery-no, delivery-whole}
 use borrow.Author.Needs.{needs}
 use Rattle.query.proofs.sections.read_delivery.Statement.{statement}
 use Rattle.query.proofs.sections.read_delivery.Tie as tie
 
 pub read-delivery-spec : {M : Type 1} → statement M
+unfolding deliverySection
 read-delivery-spec =
     tie.close
     (tie.spec
@@ -12,11 +15,11 @@ read-delivery-spec =
     (λ c. search needs)
     (λ c. search needs)
     (λ c κs. search needs)
-    (λ c. search (needs, of-delivery))
+    (λ c. search (needs, count-cut))
     (λ c κs. search needs)
     (λ c κs. search needs)
     (λ c. search needs)
     (λ c. search needs)
     (λ c κs. search needs)
-    (λ c. search (needs, of-delivery))
-    (λ c. search (needs, of-delivery)))
+    (λ c. search (needs, delivery-no))
+    (λ c. search (needs, delivery-whole)))

@@ -3,19 +3,21 @@ use Prim.Native.Nat.{_+_, _-_, _*_, _≤_}
 use mathlib.Core.Path.{_≡_}
 use lib.ListN.{drop}
 use borrow.Author.Needs.{needs}
-use Rattle.query.specs.Fields.{items}
-use Rattle.query.specs.Decode.{join, joinsSection}
-use Rattle.query.proofs.SectionLaws.{of-joins}
+use Rattle.query.specs.Fields.{items, storing}
+use Rattle.query.specs.Decode.{two, withJoin, joinsSection}
+use Rattle.query.proofs.SectionLaws.{two-stored, of-section}
 use Rattle.query.proofs.sections.read_joins.Statement.{statement}
 use Rattle.query.proofs.sections.read_joins.Tie as tie
 
 abbrev Inv-loop : tie.InvT-loop
-Inv-loop part n due m count joins₀ i₀ joins i = (i ≤ count) × ((count ≤ 8) × (joinsSection n part ≡ items (join n) (count - i) i joins (drop (1 + 2 * i) part)))
+Inv-loop part n due m count joins₀ at₀ i₀ joins at i =
+    (i ≤ count) × ((count ≤ n - 1) × ((at ≤ 1 + 2 * i) × (joinsSection n part ≡ items (storing (two n n) withJoin) (count - i) i joins (drop at part))))
 
 abbrev μ-loop : tie.MeasureT-loop
-μ-loop part n due m count joins₀ i₀ joins i = count - i
+μ-loop part n due m count joins₀ at₀ i₀ joins at i = count - i
 
 pub read-joins-spec : {M : Type 1} → statement M
+unfolding joinsSection
 read-joins-spec =
     tie.close
     (tie.spec
@@ -27,24 +29,21 @@ read-joins-spec =
     (λ c. search needs)
     (λ c κs. search needs)
     (λ c κs. search needs)
-    (λ c. search (needs, of-joins))
+    (λ c. search (needs, of-section))
     (λ c κs. search needs)
-    (λ c. search (needs, of-joins))
-    (λ c. search needs)
-    (λ c. search needs)
+    (λ c. search (needs, of-section))
     (λ c κs. search needs)
     (λ c κs. search needs)
     (λ c. search needs)
     (λ c. search needs)
     (λ c κs. search needs)
-    (λ c. search (needs, of-joins))
+    (λ c. search (needs, of-section))
     (λ c. search needs)
     (λ c. search needs)
     (λ c. search needs)
     (λ c. search needs)
     (λ c. search needs)
     (λ c. search needs)
-    (λ c. search (needs, of-joins))
     (λ c. search needs)
-    (λ c. search needs)
-    (λ c. search (needs, of-joins)))
+    (λ c. (search needs, (search needs, (search needs, search (needs, two-stored withJoin)))))
+    (λ c. search (needs, of-section)))

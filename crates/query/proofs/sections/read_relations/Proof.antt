@@ -3,19 +3,21 @@ use Prim.Native.Nat.{_+_, _-_, _*_, _≤_}
 use mathlib.Core.Path.{_≡_}
 use lib.ListN.{drop}
 use borrow.Author.Needs.{needs}
-use Rattle.query.specs.Fields.{items}
-use Rattle.query.specs.Decode.{relation, relationsSection}
-use Rattle.query.proofs.SectionLaws.{of-relations}
+use Rattle.query.specs.Fields.{items, storing}
+use Rattle.query.specs.Decode.{two, withRelation, relationsSection}
+use Rattle.query.proofs.SectionLaws.{two-stored, of-section}
 use Rattle.query.proofs.sections.read_relations.Statement.{statement}
 use Rattle.query.proofs.sections.read_relations.Tie as tie
 
 abbrev Inv-loop : tie.InvT-loop
-Inv-loop part s n count relations₀ i₀ relations i = (i ≤ count) × ((count ≤ 9) × (relationsSection s part ≡ items (relation s) (count - i) i relations (drop (1 + 2 * i) part)))
+Inv-loop part s n count relations₀ at₀ i₀ relations at i =
+    (i ≤ count) × ((count ≤ 9) × ((at ≤ 1 + 2 * i) × (relationsSection s part ≡ items (storing (two s 2) withRelation) (count - i) i relations (drop at part))))
 
 abbrev μ-loop : tie.MeasureT-loop
-μ-loop part s n count relations₀ i₀ relations i = count - i
+μ-loop part s n count relations₀ at₀ i₀ relations at i = count - i
 
 pub read-relations-spec : {M : Type 1} → statement M
+unfolding relationsSection
 read-relations-spec =
     tie.close
     (tie.spec
@@ -26,24 +28,21 @@ read-relations-spec =
     (λ c. search needs)
     (λ c κs. search needs)
     (λ c κs. search needs)
-    (λ c. search (needs, of-relations))
+    (λ c. search (needs, of-section))
     (λ c κs. search needs)
-    (λ c. search (needs, of-relations))
-    (λ c. search needs)
-    (λ c. search needs)
+    (λ c. search (needs, of-section))
     (λ c κs. search needs)
     (λ c κs. search needs)
     (λ c. search needs)
     (λ c. search needs)
     (λ c κs. search needs)
-    (λ c. search (needs, of-relations))
+    (λ c. search (needs, of-section))
     (λ c. search needs)
     (λ c. search needs)
     (λ c. search needs)
     (λ c. search needs)
     (λ c. search needs)
     (λ c. search needs)
-    (λ c. search (needs, of-relations))
     (λ c. search needs)
-    (λ c. search needs)
-    (λ c. search (needs, of-relations)))
+    (λ c. (search needs, (search needs, (search needs, search (needs, two-stored withRelation)))))
+    (λ c. search (needs, of-section)))

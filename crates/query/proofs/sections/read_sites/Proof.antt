@@ -3,19 +3,21 @@ use Prim.Native.Nat.{_+_, _-_, _*_, _≤_}
 use mathlib.Core.Path.{_≡_}
 use lib.ListN.{drop}
 use borrow.Author.Needs.{needs}
-use Rattle.query.specs.Fields.{items}
-use Rattle.query.specs.Decode.{site, sitesSection}
-use Rattle.query.proofs.SectionLaws.{of-sites}
+use Rattle.query.specs.Fields.{items, storing}
+use Rattle.query.specs.Decode.{terms, withSite, sitesSection}
+use Rattle.query.proofs.SectionLaws.{terms-stored, of-section}
 use Rattle.query.proofs.sections.read_sites.Statement.{statement}
 use Rattle.query.proofs.sections.read_sites.Tie as tie
 
 abbrev Inv-loop : tie.InvT-loop
-Inv-loop part n count sites₀ i₀ sites i = (i ≤ count) × ((count ≤ 8) × (sitesSection part ≡ items site (count - i) i sites (drop (1 + 9 * i) part)))
+Inv-loop part n count sites₀ at₀ i₀ sites at i =
+    (i ≤ count) × ((count ≤ 8) × ((at ≤ 1 + 9 * i) × (sitesSection part ≡ items (storing terms withSite) (count - i) i sites (drop at part))))
 
 abbrev μ-loop : tie.MeasureT-loop
-μ-loop part n count sites₀ i₀ sites i = count - i
+μ-loop part n count sites₀ at₀ i₀ sites at i = count - i
 
 pub read-sites-spec : {M : Type 1} → statement M
+unfolding sitesSection
 read-sites-spec =
     tie.close
     (tie.spec
@@ -26,17 +28,15 @@ read-sites-spec =
     (λ c. search needs)
     (λ c κs. search needs)
     (λ c κs. search needs)
-    (λ c. search (needs, of-sites))
+    (λ c. search (needs, of-section))
     (λ c κs. search needs)
-    (λ c. search (needs, of-sites))
-    (λ c. search needs)
-    (λ c. search needs)
+    (λ c. search (needs, of-section))
     (λ c κs. search needs)
     (λ c κs. search needs)
     (λ c. search needs)
     (λ c. search needs)
     (λ c κs. search needs)
-    (λ c. search (needs, of-sites))
+    (λ c. search (needs, of-section))
     (λ c. search needs)
     (λ c. search needs)
     (λ c. search needs)
@@ -45,7 +45,6 @@ read-sites-spec =
     (λ c. search needs)
     (λ c. search needs)
     (λ c. search needs)
-    (λ c. search (needs, of-sites))
     (λ c. search needs)
-    (λ c. search needs)
-    (λ c. search (needs, of-sites)))
+    (λ c. (search needs, (search needs, (search needs, search (needs, terms-stored withSite)))))
+    (λ c. search (needs, of-section)))

@@ -1,4 +1,4 @@
--- Each test of the code is a test of the definition, and joins that pass all three are a tree.
+-- Each test of the code is a test of the definition, and joins that pass all three are a tree, of which the table tells the subqueries.
 use Rattle.relations.proofs.Drawing.{drawn-of, tree-of, counted-many, counted-astray, counted-apart, counted-tree}
 use borrow.Author.Needs.{needs}
 use Rattle.relations.proofs.subquery.counted.Statement.{statement}
@@ -11,7 +11,8 @@ counted-spec =
     (λ c. search (needs, counted-many))
     (λ c κs. search needs)
     (λ c κs. search (needs, drawn-of))
-    (λ c κs. (search needs, search (needs, drawn-of, tree-of)))
+    (λ c κs. search (needs, drawn-of))
+    (λ c κs. record { few = search needs; tree = search (needs, drawn-of, tree-of); entries = search needs })
     (λ c. search (needs, counted-tree))
     (λ c. search (needs, counted-apart))
     (λ c. search (needs, counted-astray)))

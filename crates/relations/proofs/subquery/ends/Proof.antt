@@ -1,10 +1,11 @@
 -- The loop has the ends of every join below e.
 use Prim.Native.Nat.{_-_, _≤_}
-use native.Mathlib.Omega.{arith}
 use mathlib.Core.Path.{refl}
 use borrow.Author.Needs.{needs}
 use Rattle.relations.specs.Code.{EndsOf}
-use Rattle.relations.proofs.Turns.{row-none, row-more, row-done, ends-are}
+use Rattle.relations.proofs.Listed.{listed-none, listed-more, listed-done}
+use Rattle.relations.proofs.Drawing.{first-low, second-low}
+use Rattle.relations.proofs.Turns.{ends-are}
 use Rattle.relations.proofs.subquery.ends.Statement.{statement}
 use Rattle.relations.proofs.subquery.ends.Tie as tie
 
@@ -20,18 +21,16 @@ ends-spec =
     (tie.spec
     Inv-loop
     μ-loop
-    (λ c. (search needs, row-none _ _ refl))
+    (λ c. (search needs, listed-none _ _ _ refl))
     (λ c. search needs)
     (λ c. search needs)
     (λ c. search needs)
     (λ c. search needs)
-    (λ c κs. let s = c .before .before .before .before in
-    omega (arith, s .pre .few, s .pre .first-in (c .before .before .before .loop .e) (search needs)))
-    (λ c κs. let s = c .before .before .before .before .before in
-    omega (arith, s .pre .few, s .pre .second-in (c .before .before .before .before .loop .e) (search needs)))
+    (λ c κs. search (needs, first-low))
+    (λ c κs. search (needs, second-low))
     (λ c. search needs)
     (λ c. search needs)
     (λ c. search needs)
     (λ c. search needs)
-    (λ c. (search needs, search (needs, row-more, ends-are)))
-    (λ c. search (needs, row-done)))
+    (λ c. (search needs, search (needs, listed-more, ends-are)))
+    (λ c. search (needs, listed-done)))

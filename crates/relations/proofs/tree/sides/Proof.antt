@@ -3,7 +3,7 @@ use Prim.Native.Nat.{_-_, _≤_}
 use mathlib.Core.Path.{refl}
 use borrow.Author.Needs.{needs}
 use Rattle.relations.specs.Code.{SidesOf}
-use Rattle.relations.proofs.Turns.{row-none, row-more, row-done}
+use Rattle.relations.proofs.Listed.{listed-none, listed-more, listed-done}
 use Rattle.relations.proofs.tree.sides.Statement.{statement}
 use Rattle.relations.proofs.tree.sides.Tie as tie
 
@@ -19,11 +19,11 @@ sides-spec =
     (tie.spec
     Inv-loop
     μ-loop
-    (λ c. (search needs, row-none _ _ refl))
+    (λ c. (search needs, listed-none _ _ _ refl))
     (λ c κs. search needs)
     (λ c. search needs)
     (λ c. search needs)
     (λ c. search needs)
     (λ c. search needs)
-    (λ c. (search needs, search (needs, row-more)))
-    (λ c. search (needs, row-done)))
+    (λ c. (search needs, search (needs, listed-more)))
+    (λ c. search (needs, listed-done)))

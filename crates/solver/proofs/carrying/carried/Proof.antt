@@ -1,8 +1,11 @@
 -- `carrying::carried` meets its contract: each turn makes one line more ready. Assumes nothing.
 use Prim.Native.Nat.{_-_, _≤_}
+use mathlib.Core.Path.{refl}
 use borrow.Author.Needs.{needs}
-use Rattle.solver.specs.Code.{Listed, carriageFixed, carriageRate}
-use Rattle.solver.proofs.Carriages.{listed-none, listed-more, listed-done, carriage-fixed-at, carriage-rate-at}
+use Rattle.relations.specs.Code.{Listed}
+use Rattle.relations.proofs.Listed.{listed-none, listed-next, listed-done}
+use Rattle.solver.specs.Code.{carriageFixed, carriageRate}
+use Rattle.solver.proofs.Carriages.{carriage-fixed-at, carriage-rate-at}
 use Rattle.solver.proofs.carrying.carried.Statement.{statement}
 use Rattle.solver.proofs.carrying.carried.Tie as tie
 
@@ -19,7 +22,7 @@ carried-spec =
     (tie.spec
     Inv-loop
     μ-loop
-    (λ c. (search needs, (listed-none _, listed-none _)))
+    (λ c. (search needs, (listed-none _ _ _ refl, listed-none _ _ _ refl)))
     (λ c. search needs)
     (λ c. search needs)
     (λ c. search needs)
@@ -37,5 +40,5 @@ carried-spec =
     (λ c. search needs)
     (λ c. search needs)
     (λ c. let l = c .before .before .before .before .before .before .before in
-    (search needs, (listed-more _ _ _ _ (l .loop .inv .1 .0) (search needs) (carriage-fixed-at _ _ _ _ (c .before .before .before .term .ensures)), listed-more _ _ _ _ (l .loop .inv .1 .1) (search needs) (carriage-rate-at _ _ _ _ (c .term2 .ensures)))))
-    (λ c. (listed-done _ _ _ (c .before .loop .inv .1 .0) (search needs), listed-done _ _ _ (c .before .loop .inv .1 .1) (search needs))))
+    (search needs, (listed-next _ _ _ _ _ (l .loop .inv .1 .0) (search needs) (carriage-fixed-at _ _ _ _ (c .before .before .before .term .ensures)), listed-next _ _ _ _ _ (l .loop .inv .1 .1) (search needs) (carriage-rate-at _ _ _ _ (c .term2 .ensures)))))
+    (λ c. (listed-done _ _ _ _ _ (c .before .loop .inv .1 .0) (search needs), listed-done _ _ _ _ _ (c .before .loop .inv .1 .1) (search needs))))

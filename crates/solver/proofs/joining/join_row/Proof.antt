@@ -5,14 +5,14 @@ use mathlib.Core.Bool.{true}
 use lib.Bits.{and-le-l}
 use lib.ListN.{getD}
 use borrow.Author.Needs.{needs}
-use Rattle.relations.specs.Code.{Row}
+use Rattle.relations.specs.Code.{Listed}
 use Rattle.solver.specs.Code.{Lent, lent, joinIn, joinedBelow}
 use Rattle.solver.proofs.Turns.{join-is, joined-none, joined-more, joined-same, row-same}
 use Rattle.solver.proofs.joining.join_row.Statement.{statement}
 use Rattle.solver.proofs.joining.join_row.Tie as tie
 
 abbrev Inv-loop : tie.InvT-loop
-Inv-loop work ends sides charges joins sites set row₀ e₀ row e = (e ≤ joins) × Row row (joinedBelow (lent work ends sides) (λ (k : ℕ). getD charges k 0) set e) sites
+Inv-loop work ends sides charges joins sites set row₀ e₀ row e = (e ≤ joins) × Listed row (joinedBelow (lent work ends sides) (λ (k : ℕ). getD charges k 0) set e) 8 sites
 
 abbrev μ-loop : tie.MeasureT-loop
 μ-loop work ends sides charges joins sites set row₀ e₀ row e = joins - e
