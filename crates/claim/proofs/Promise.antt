@@ -20,7 +20,8 @@ use Rattle.tables.proofs.Lower.{cheapest-law}
 use Rattle.tables.proofs.Optimum.{plus-combines, no-route-law}
 use Rattle.planner.specs.declared.Planner.{Planner}
 use Rattle.planner.specs.State.{State}
-use Rattle.planner.specs.Calls.{Answer, Done, found, noRoute, solve, solved, solveAdmitted}
+use Rattle.planner.specs.Done.{Done}
+use Rattle.planner.specs.Solve.{Answer, noRoute, solve, solved, solveAdmitted}
 use Rattle.planner.specs.Contracts.{stateOf, doneOf, ofSolve, Sound}
 use Rattle.claim.specs.Lists.{inForce}
 use Rattle.claim.specs.Claim.{NoPlan, Right, Solved, Demand3, EveryCall}
@@ -53,12 +54,12 @@ module _ (q : Query) (valid : Valid q) (a : Answer) (p : Planner) where
   -- What solve answers, by what the query costs, is right.
   right : (c : Cost) → cheapest _+_ q ≡ c → doneOf a p ≡ solved q c → Right q a p
   right Cost.none e d =
-      subst (λ (x : Answer). Right q x p) (sym (ap (λ (y : Done). y .answer) d))
-      ((λ plan w. no-route-law _+_ plus-combines q valid .0 e plan (w .0) (w .1)), ap (λ (y : Done). y .next .kept) d, refl)
+      subst (λ (x : Answer). Right q x p) (sym (ap (λ (y : Done Answer). y .answer) d))
+      ((λ plan w. no-route-law _+_ plus-combines q valid .0 e plan (w .0) (w .1)), ap (λ (y : Done Answer). y .next .kept) d, refl)
   right (Cost.some c) e d =
       let w = written-law _+_ plus-combines q valid c e in
-      subst (λ (x : Answer). Right q x p) (sym (ap (λ (y : Done). y .answer) d)) (
-        record { kept = record { plan = written _+_ q; cost = c }; is-kept = ap (λ (y : Done). y .next .kept) d; allowed = w .allowed; cost = refl },
+      subst (λ (x : Answer). Right q x p) (sym (ap (λ (y : Done Answer). y .answer) d)) (
+        record { kept = record { plan = written _+_ q; cost = c }; is-kept = ap (λ (y : Done Answer). y .next .kept) d; allowed = w .allowed; cost = refl },
         (λ plan x h. rw e at (cheapest-law _+_ plus-combines q valid plan x h)),
         refl,
       )
@@ -81,5 +82,5 @@ demand3 calls p w κs cells last r post ok =
       query = q;
       in-force = h .1;
       right = right q valid (ofSolve (r .answer)) (r .planner) (cheapest _+_ q) refl d;
-      no-route = exactly q valid (ofSolve (r .answer)) (r .planner) (cheapest _+_ q) refl (ap (λ (y : Done). y .answer) d);
+      no-route = exactly q valid (ofSolve (r .answer)) (r .planner) (cheapest _+_ q) refl (ap (λ (y : Done Answer). y .answer) d);
     }

@@ -18,7 +18,7 @@ use Rattle.planner.specs.declared.AfterLink.{AfterLink}
 use Rattle.planner.specs.declared.AfterSolve.{AfterSolve}
 use Rattle.planner.specs.declared.ReadAnswer.{ReadAnswer}
 use Rattle.planner.specs.declared.CheckAnswer.{CheckAnswer}
-use Rattle.planner.specs.Calls.{Link, linkOf, sitesListed, termsInRange, relinedBy}
+use Rattle.planner.specs.Link.{Link, linkOf, sitesListed, termsInRange, relinedBy}
 use Rattle.planner.proofs.empty.Reads as Empty
 use Rattle.planner.proofs.load.Reads as Load
 use Rattle.planner.proofs.link.Reads as Link-reads

@@ -1,2 +1,5 @@
-pub mod Answers
+pub mod Loading
+pub mod Linking
 pub mod Solving
+pub mod Reading
+pub mod Checking

@@ -19,14 +19,14 @@ use Rattle.tables.proofs.StepBytes.{step-bytes-long}
 use Rattle.tables.proofs.Upper.{written-law}
 use Rattle.tables.proofs.Optimum.{plus-combines}
 use Rattle.planner.specs.declared.Planner.{Planner}
-use Rattle.planner.specs.Calls.{found, noRoute, refused, solve, solveAdmitted}
+use Rattle.planner.specs.Solve.{found, noRoute, refused, solve, solveAdmitted}
 use Rattle.planner.specs.Contracts.{stateOf, doneOf, Sound}
 
-pub solve-nothing : (p : Planner) (n : ℕ) → p .loaded ≡ false → doneOf (refused 20 0) p ≡ solve n (stateOf p)
+pub solve-nothing : (p : Planner) (n : ℕ) → p .loaded ≡ false → doneOf (refused 20) p ≡ solve n (stateOf p)
 unfolding solve
 solve-nothing p n e = rw e
 
-pub solve-few : (p : Planner) (n : ℕ) → p .loaded ≡ true → n < 4096 → doneOf (refused 21 0) p ≡ solve n (stateOf p)
+pub solve-few : (p : Planner) (n : ℕ) → p .loaded ≡ true → n < 4096 → doneOf (refused 21) p ≡ solve n (stateOf p)
 unfolding solve
 solve-few p n e h = rw (e, lt-ltb n 4096 h)
 

@@ -20,7 +20,11 @@ ghost use mathlib.Core.Path.{_≡_};
 ghost use mathlib.Core.Bool.{false};
 ghost use lib.ListN.{length, drop};
 ghost use Rattle.planner.specs.State.{nothing};
-ghost use Rattle.planner.specs.Calls.{load, link, linkOf, sitesListed, termsInRange, relinedBy, solve, solveAdmitted, readingOf, read, check};
+ghost use Rattle.planner.specs.Load.{load};
+ghost use Rattle.planner.specs.Link.{link, linkOf, sitesListed, termsInRange, relinedBy};
+ghost use Rattle.planner.specs.Solve.{solve, solveAdmitted};
+ghost use Rattle.planner.specs.Read.{readingOf, read};
+ghost use Rattle.planner.specs.Check.{check};
 ghost use Rattle.planner.specs.Contracts.{stateOf, doneOf, ofLoad, ofLink, ofSolve, ofRead, ofCheck, Sound};
 
 // The cells that solve needs.

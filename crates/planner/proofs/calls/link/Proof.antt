@@ -1,4 +1,4 @@
-use Rattle.planner.proofs.Answers.{linking, listed-low}
+use Rattle.planner.proofs.Linking.{linking, listed-low}
 use borrow.Author.Needs.{needs}
 use Rattle.planner.proofs.calls.link.Statement.{statement}
 use Rattle.planner.proofs.calls.link.Tie as tie

@@ -6,7 +6,7 @@ use Prim.Native.Nat.{_≤_}
 use lib.ListN.{length}
 use lib.Seq.{length-take-le}
 use denote.Ref.{now}
-use Rattle.planner.proofs.Answers.{read-nothing, read-unkept, read-short, read-goes, plan-whole}
+use Rattle.planner.proofs.Reading.{read-nothing, read-unkept, read-short, read-goes, plan-whole}
 use Rattle.planner.proofs.calls.read.Statement.{statement}
 use Rattle.planner.proofs.calls.read.Tie as tie
 
