@@ -17,7 +17,8 @@ use Rattle.tables.specs.Tables.{cheapest, trials}
 use Rattle.tables.specs.Plan.{written}
 use Rattle.tables.proofs.Upper.{written-law}
 use Rattle.tables.proofs.Lower.{cheapest-law}
-use Rattle.tables.proofs.Optimum.{plus-combines, no-route-law}
+use Rattle.rules.proofs.Combine.{plus-combines}
+use Rattle.tables.proofs.Optimum.{no-route-law}
 use Rattle.planner.specs.declared.Planner.{Planner}
 use Rattle.planner.specs.State.{State}
 use Rattle.planner.specs.Done.{Done}

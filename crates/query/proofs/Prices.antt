@@ -14,7 +14,7 @@ use Rattle.query.specs.declared.Query.{Query}
 use Rattle.query.specs.Choice.{pick}
 use Rattle.query.specs.Cost.{none, some}
 use Rattle.query.specs.Query.{Valid, joinFixed, joinRate, isOpen, lineFixed, lineRate, size}
-use Rattle.query.specs.Prices.{linePrice, carriage, read, reads, joinPrice}
+use Rattle.query.specs.Prices.{linePrice, carriage, read, reads, joinPrice, dearestLine}
 use Rattle.query.specs.Theorems.{LineMost, JoinMost, ReadsEither}
 
 -- A fixed amount and a rate times a size, each up to its limit.
@@ -95,10 +95,10 @@ carried q P k t c e = go (eqb k t) (isOpen q k t) refl refl e
     go false true h g e = inr (eqb-false k t h, g, cc)
     go false false h g e = absurd (clash (cc))
 
--- No carriage that is a number is above 1,000,001,000,000.
-pub carriage-most : (q : Query) → Valid q → (P k t c : ℕ) → carriage q P k t ≡ some c → c ≤ 1_000_001_000_000
+-- No carriage that is a number is above the dearest line's price.
+pub carriage-most : (q : Query) → Valid q → (P k t c : ℕ) → carriage q P k t ≡ some c → c ≤ dearestLine
 carriage-most q v P k t c e = go (carried q P k t c e)
   where
-    go : Carried q P k t c → c ≤ 1_000_001_000_000
+    go : Carried q P k t c → c ≤ dearestLine
     go (inl h) = omega (arith, h .1)
     go (inr h) = omega (arith, h .2, line-most q v P k t)

@@ -29,6 +29,13 @@ reads a x b y = read a x + read b y
 unfoldable pub joinPrice : Query → ℕ → Bool → ℕ → Bool → ℕ → ℕ
 joinPrice q k a P b R = joinFixed q k + joinRate q k * (reads a (size q P) b (size q R) + size q (P + R))
 
+-- What a line and a join cost at most: each amount at document 01's limit.
+abbrev pub dearestLine : ℕ
+dearestLine = 1_000_001_000_000
+
+abbrev pub dearestJoin : ℕ
+dearestJoin = 3_000_001_000_000
+
 -- Whether what is delivered of S at site k is read by its index: it is one relation, k is its home (so it was never sent), and its index flag is set.
 unfoldable pub indexed : Query → ℕ → ℕ → Bool
 indexed q S k = eqb (ones S) 1 && (eqb (home q (lowest (relationsOf q) S)) k && index q (lowest (relationsOf q) S))

@@ -7,18 +7,18 @@ use Rattle.query.specs.declared.Query.{Query}
 use Rattle.query.specs.Fields.{value, refused}
 use Rattle.query.specs.Decode.{decode}
 use Rattle.query.specs.Query.{Valid}
-use Rattle.query.specs.Prices.{linePrice, joinPrice, reads}
+use Rattle.query.specs.Prices.{linePrice, joinPrice, reads, dearestLine, dearestJoin}
 
 -- Every decoded query keeps to document 01's counts and ranges, and its joins make a tree.
 abbrev pub DecodeValid : Type 0
 DecodeValid = (file : List ℕ) (q : Query) (l : List ℕ) → decode file ≡ value q l → Valid q
 
--- No line's price is above 1,000,001,000,000, no join's above 3,000,001,000,000.
+-- No line's price is above that of the dearest line, no join's above that of the dearest join.
 abbrev pub LineMost : Type 0
-LineMost = (q : Query) → Valid q → (P a b : ℕ) → linePrice q P a b ≤ 1_000_001_000_000
+LineMost = (q : Query) → Valid q → (P a b : ℕ) → linePrice q P a b ≤ dearestLine
 
 abbrev pub JoinMost : Type 0
-JoinMost = (q : Query) → Valid q → (k : ℕ) (a : Bool) (P : ℕ) (b : Bool) (R : ℕ) → joinPrice q k a P b R ≤ 3_000_001_000_000
+JoinMost = (q : Query) → Valid q → (k : ℕ) (a : Bool) (P : ℕ) (b : Bool) (R : ℕ) → joinPrice q k a P b R ≤ dearestJoin
 
 -- The order of a join's operands does not matter to their reads.
 abbrev pub ReadsEither : Type 0

@@ -14,7 +14,7 @@ use Rattle.rules.specs.declared.Held.{Held}
 use Rattle.rules.specs.declared.Stepped.{Stepped}
 use Rattle.rules.specs.declared.Outcome.the-variants.{Went, Refused}
 use Rattle.rules.specs.Machine.{Machine, start, went, step}
-use Rattle.rules.specs.Plans.{stepsOf, Verdict, accepted, rejected, after, finish, run, checked}
+use Rattle.rules.specs.Plans.{mostSteps, stepsOf, Verdict, accepted, rejected, after, finish, run, checked}
 use Rattle.rules.specs.Code.{topFirst, machineOf, outcomeOf, numberOf, ofEnd, ofParts, Room}
 use Rattle.rules.proofs.Outcomes.{step-same}
 use Rattle.rules.proofs.Rooms.{step-room}
@@ -117,18 +117,18 @@ module _ (q : Query) (o : Verdict) where
   count-low [] c e l r = r
   count-low (c′ ∷ bytes) c e l r = r ∙ rw (← e, lt-leb 1 c l)
 
-  pub count-high : (plan : List ℕ) (c : ℕ) → c ≡ getD plan 0 0 → 1 ≤ c → 34 < c → o ≡ rejected 7 0 → o ≡ checked _+_ q plan
+  pub count-high : (plan : List ℕ) (c : ℕ) → c ≡ getD plan 0 0 → 1 ≤ c → mostSteps < c → o ≡ rejected 7 0 → o ≡ checked _+_ q plan
   unfolding checked
   count-high [] c e l h r = r
-  count-high (c′ ∷ bytes) c e l h r = r ∙ rw (← e, le-leb 1 c l, lt-leb c 34 h)
+  count-high (c′ ∷ bytes) c e l h r = r ∙ rw (← e, le-leb 1 c l, lt-leb c mostSteps h)
 
-  pub length-other : (plan : List ℕ) (c : ℕ) → c ≡ getD plan 0 0 → 1 ≤ c → c ≤ 34 → (length plan ≡ 1 + 2 * c → ⊥) → o ≡ rejected 7 0 → o ≡ checked _+_ q plan
+  pub length-other : (plan : List ℕ) (c : ℕ) → c ≡ getD plan 0 0 → 1 ≤ c → c ≤ mostSteps → (length plan ≡ 1 + 2 * c → ⊥) → o ≡ rejected 7 0 → o ≡ checked _+_ q plan
   unfolding checked
   length-other [] c e l h d r = r
-  length-other (c′ ∷ bytes) c e l h d r = r ∙ rw (← e, le-leb 1 c l, le-leb c 34 h, ne-eqb (length bytes) (2 * c) (λ f. d (omega arith)))
+  length-other (c′ ∷ bytes) c e l h d r = r ∙ rw (← e, le-leb 1 c l, le-leb c mostSteps h, ne-eqb (length bytes) (2 * c) (λ f. d (omega arith)))
 
-  pub plan-whole : (plan : List ℕ) (c : ℕ) → c ≡ getD plan 0 0 → 1 ≤ c → c ≤ 34 → length plan ≡ 1 + 2 * c → o ≡ run _+_ q 0 (stepsOf (drop 1 plan)) start →
+  pub plan-whole : (plan : List ℕ) (c : ℕ) → c ≡ getD plan 0 0 → 1 ≤ c → c ≤ mostSteps → length plan ≡ 1 + 2 * c → o ≡ run _+_ q 0 (stepsOf (drop 1 plan)) start →
       o ≡ checked _+_ q plan
   unfolding checked
   plan-whole [] c e l h f r = absurd (omega arith)
-  plan-whole (c′ ∷ bytes) c e l h f r = r ∙ rw (← e, le-leb 1 c l, le-leb c 34 h, eq-eqb (length bytes) (2 * c) (omega arith))
+  plan-whole (c′ ∷ bytes) c e l h f r = r ∙ rw (← e, le-leb 1 c l, le-leb c mostSteps h, eq-eqb (length bytes) (2 * c) (omega arith))

@@ -14,7 +14,7 @@ use Rattle.query.specs.Choice.{pick}
 use Rattle.query.specs.Query.{relationsOf, sitesOf, mayJoin, isOpen}
 use Rattle.rules.specs.declared.Held.{Held}
 use Rattle.rules.specs.Machine.{Machine, start, Outcome, went, refused, isSent, load, sendTop, send, links, joinTop, join, step}
-use Rattle.rules.specs.Plans.{Step, stepsOf, Verdict, accepted, rejected, after, finish, run, checked, sendPrice, joinStepPrice, stepPrice, spentAfter, spent}
+use Rattle.rules.specs.Plans.{mostSteps, Step, stepsOf, Verdict, accepted, rejected, after, finish, run, checked, sendPrice, joinStepPrice, stepPrice, spentAfter, spent}
 use Rattle.rules.specs.Theorems.{CostIsSum}
 use Rattle.rules.proofs.Steps.{guarded, step-cases}
 
@@ -94,7 +94,7 @@ costs-at (rejected k i) x c h e = absurd (clash (cc))
 
 pub cost-is-sum : CostIsSum
 unfolding checked
-cost-is-sum q count bytes c h = go ((leb 1 count && leb count 34) && eqb (length bytes) (2 * count)) h
+cost-is-sum q count bytes c h = go ((leb 1 count && leb count mostSteps) && eqb (length bytes) (2 * count)) h
   where
     go : (b : Bool) → pick b (run _+_ q 0 (stepsOf bytes) start) (rejected 7 0) ≡ accepted c → c ≡ spent q (stepsOf bytes) start
     go true h = omega (arith, costs-at (run _+_ q 0 (stepsOf bytes) start) _ c (run-costs q 0 (stepsOf bytes) start) h)

@@ -17,7 +17,7 @@ use Rattle.query.specs.Query.{relationsOf, sitesOf, home, mayJoin, isOpen}
 use Rattle.rules.specs.declared.Origin.the-variants.{Bare}
 use Rattle.rules.specs.declared.Held.{Held}
 use Rattle.rules.specs.Machine.{Machine, start, Outcome, went, refused, charge, isSent, load, sentTo, sendTop, send, links, joinOf, joinTop, join, step}
-use Rattle.rules.specs.Plans.{Step, stepsOf, Verdict, accepted, rejected, after, finish, run, checked, AllowedAt}
+use Rattle.rules.specs.Plans.{mostSteps, Step, stepsOf, Verdict, accepted, rejected, after, finish, run, checked, AllowedAt}
 use Rattle.rules.proofs.Steps.{guarded, step-cases}
 
 -- Relation r as a load puts it on top.
@@ -130,7 +130,7 @@ module _ (combine : ℕ → ℕ → ℕ) (q : Query) (P : Held → Type 0) (keep
   checked-keeps : (plan : List ℕ) → Ended (checked combine q plan)
   unfolding checked
   checked-keeps [] = tt
-  checked-keeps (count ∷ bytes) = go ((leb 1 count && leb count 34) && eqb (length bytes) (2 * count))
+  checked-keeps (count ∷ bytes) = go ((leb 1 count && leb count mostSteps) && eqb (length bytes) (2 * count))
     where
       go : (b : Bool) → Ended (pick b (run combine q 0 (stepsOf bytes) start) (rejected 7 0))
       go true = run-keeps 0 (stepsOf bytes) start refl

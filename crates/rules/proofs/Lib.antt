@@ -1,3 +1,4 @@
+pub mod Combine
 pub mod Steps
 pub mod Links
 pub mod CostIsSum

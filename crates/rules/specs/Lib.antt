@@ -1,3 +1,4 @@
+pub mod Combine
 pub mod Machine
 pub mod Plans
 pub mod Code

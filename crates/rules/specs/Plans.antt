@@ -13,6 +13,13 @@ use Rattle.query.specs.Prices.{linePrice, joinPrice}
 use Rattle.rules.specs.declared.Held.{Held}
 use Rattle.rules.specs.Machine.{Machine, start, Outcome, went, refused, spared, step}
 
+-- How many steps a plan may have, and how many bytes it then has at most: its count, and two a step.
+abbrev pub mostSteps : ℕ
+mostSteps = 34
+
+abbrev pub longestPlan : ℕ
+longestPlan = 1 + 2 * mostSteps
+
 -- A step: its kind and its argument.
 pub record Step : Type 0 where
   pub kind : ℕ
@@ -48,7 +55,7 @@ run combine q i (x ∷ xs) m = after i (step combine q (x .kind) (x .arg) m) (ru
 unfoldable pub checked : (ℕ → ℕ → ℕ) → Query → List ℕ → Verdict
 checked combine q [] = rejected 7 0
 checked combine q (count ∷ bytes) =
-    pick ((leb 1 count && leb count 34) && eqb (length bytes) (2 * count)) (run combine q 0 (stepsOf bytes) start) (rejected 7 0)
+    pick ((leb 1 count && leb count mostSteps) && eqb (length bytes) (2 * count)) (run combine q 0 (stepsOf bytes) start) (rejected 7 0)
 
 -- The plan keeps all the rules for the query, and its figure is c.
 abbrev pub AllowedAt : (ℕ → ℕ → ℕ) → Query → List ℕ → ℕ → Type 0

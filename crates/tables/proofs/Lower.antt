@@ -24,12 +24,13 @@ use Rattle.query.proofs.Prices.{join-either, spared-cheaper, carriage-stays, ca
 use Rattle.rules.specs.declared.Origin.{Origin}
 use Rattle.rules.specs.declared.Origin.the-variants.{Bare, Sent, Joined}
 use Rattle.rules.specs.declared.Held.{Held}
+use Rattle.rules.specs.Combine.{Combines}
 use Rattle.rules.specs.Machine.{isBare, isSent, sentTo, links, spared, joinOf}
 use Rattle.rules.specs.Plans.{AllowedAt}
 use Rattle.rules.proofs.Links.{links-means}
 use Rattle.rules.proofs.Kept.{bareOf, Keeps, Ends, allowed-ends}
 use Rattle.tables.specs.Tables.{only, byJoin, bySite, delivered, joined, cheapest}
-use Rattle.tables.specs.Theorems.{Combines, CheapestLaw}
+use Rattle.tables.specs.Theorems.{CheapestLaw}
 use Rattle.tables.proofs.Costs.{at-most-is, at-most-more, both-most, plus-most}
 use Rattle.tables.proofs.Tables.{ones-some, delivered-one, delivered-within, joined-within}
 

@@ -1,4 +1,4 @@
--- No figure is above 41,000,025,000,000: k relations take at most k - 1 joins and 2k - 1 sends, each within its limit.
+-- No figure is above `mostCost`: k relations take at most k - 1 joins and 2k - 1 sends, each within its limit.
 use Prim.Native.Nat.{ℕ, zero, suc, _+_, _-_, _*_, _≤_, _<_}
 use mathlib.Core.Path.{_≡_, refl, sym, ap, subst, _∙_}
 use mathlib.Core.Bool.{true, false}
@@ -22,7 +22,7 @@ use Rattle.rules.specs.Machine.{isSent, sentTo, links, spared, joinOf}
 use Rattle.rules.proofs.Kept.{bareOf, Keeps, Ends, allowed-ends}
 use Rattle.tables.specs.Tables.{firstPart, otherPart, only, delivered, joined}
 use Rattle.tables.specs.Plan.{bestSite, bestJoin}
-use Rattle.tables.specs.Theorems.{PlanMostLaw, MostLaw}
+use Rattle.tables.specs.Theorems.{mostCost, PlanMostLaw, MostLaw}
 use Rattle.tables.proofs.Tables.{ones-some, ones-most, BySite, ByJoin, delivered-one, delivered-found, joined-found}
 
 -- The limits of a send's and of a join's price. Each relation but one takes at most one join and two sends, and there may be a last send.
@@ -40,7 +40,7 @@ Below c k y = c + (joinLimit + 2 * sendLimit) ≤ k * (joinLimit + 2 * sendLimit
 below-join : (a b j k p s : ℕ) → Below a j sendLimit → Below b k sendLimit → p ≤ joinLimit → s ≡ j + k → Below (a + b + p) s 0
 below-join a b j k p s one other price sum = omega arith
 
-below-nine : (c k : ℕ) → k ≤ 9 → Below c k sendLimit → c ≤ 41_000_025_000_000
+below-nine : (c k : ℕ) → k ≤ 9 → Below c k sendLimit → c ≤ mostCost
 below-nine c k nine h = omega arith
 
 module _ (q : Query) (v : Valid q) where
@@ -116,7 +116,7 @@ delivered-most q v S t c s e =
     below-nine c (ones S) (omega (arith, ones-most q v S s, v .relations-most)) (delivered-below q v (ones S) S t c s (le-refl _) e)
 
 -- Nor is Joined's.
-pub joined-most : (q : Query) → Valid q → (S k c : ℕ) → Subquery (q .joins) (relationsOf q) S → joined _+_ q S k ≡ some c → c ≤ 41_000_025_000_000
+pub joined-most : (q : Query) → Valid q → (S k c : ℕ) → Subquery (q .joins) (relationsOf q) S → joined _+_ q S k ≡ some c → c ≤ mostCost
 joined-most q v S k c s number =
     let most = ones-most q v S s in
     let below = joined-below q v S k c s number (λ P i x p fewer h. delivered-below q v (ones P) P i x p (le-refl _) h) in
@@ -127,7 +127,7 @@ plan-most q v plan c allowed =
     let end : Ends q (Limited q v) c = allowed-ends _+_ q (Limited q v) (limited q v) plan c allowed in
     at-end (end .held) (end .kept) (end .whole) (end .figure)
   where
-    at-end : (h : Held) → Limited q v h → h .set ≡ all (relationsOf q) → h .figure .0 ≡ c → c ≤ 41_000_025_000_000
+    at-end : (h : Held) → Limited q v h → h .set ≡ all (relationsOf q) → h .figure .0 ≡ c → c ≤ mostCost
     at-end h f whole figure =
         let count : ones (h .set) ≡ relationsOf q = ap ones whole ∙ ones-ones (relationsOf q) in
         below-nine c (ones (h .set)) (omega (arith, v .relations-most)) (omega (arith, at-most-sent q v (h .origin)))

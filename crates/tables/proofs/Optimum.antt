@@ -1,20 +1,14 @@
 -- No route means no plan: the tables have none exactly when no list of bytes is an allowed plan, by the written plan and the lower bound.
-use Prim.Native.Nat.{ℕ, _+_}
+use Prim.Native.Nat.{ℕ}
 use mathlib.Core.Path.{_≡_, refl}
 use mathlib.Core.List.{List}
-use native.Mathlib.Nat.{add-comm}
-use native.Mathlib.Omega.{arith}
 use Rattle.query.specs.Cost.{Cost, none, some}
 use Rattle.rules.specs.Plans.{AllowedAt}
 use Rattle.tables.specs.Tables.{cheapest}
 use Rattle.tables.specs.Plan.{written}
-use Rattle.tables.specs.Theorems.{Combines, NoRouteLaw}
+use Rattle.tables.specs.Theorems.{NoRouteLaw}
 use Rattle.tables.proofs.Lower.{cheapest-law}
 use Rattle.tables.proofs.Upper.{written-law}
-
--- The sum is a combination of figures as the tables ask for.
-pub plus-combines : Combines _+_
-plus-combines = record { mono = λ a b x y l m. omega arith; comm = add-comm }
 
 pub no-route-law : NoRouteLaw
 no-route-law combine laws q v = (no-plan, no-number (cheapest combine q) refl)

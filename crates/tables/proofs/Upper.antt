@@ -22,7 +22,7 @@ use Rattle.query.specs.Prices.{joinPrice, indexed}
 use Rattle.rules.specs.declared.Origin.the-variants.{Joined}
 use Rattle.rules.specs.declared.Held.{Held}
 use Rattle.rules.specs.Machine.{Machine, start, Outcome, went, links, spared}
-use Rattle.rules.specs.Plans.{Step, stepsOf, accepted, finish, checked}
+use Rattle.rules.specs.Plans.{mostSteps, Step, stepsOf, accepted, finish, checked}
 use Rattle.rules.proofs.Links.{links-of}
 use Rattle.rules.proofs.Runs.{join-goes, ran-then, ran-one, ran-ends}
 use Rattle.tables.specs.Tables.{firstPart, otherPart, delivered}
@@ -131,11 +131,11 @@ steps-back [] = refl
 steps-back (x ∷ xs) = rw (steps-back xs)
 
 -- Steps that put every relation at the query site make an allowed plan.
-plan-allowed : (combine : ℕ → ℕ → ℕ) (q : Query) (xs : List Step) (c : ℕ) → Delivers combine q xs (all (relationsOf q)) (q .target) c → length xs ≤ 34 →
+plan-allowed : (combine : ℕ → ℕ → ℕ) (q : Query) (xs : List Step) (c : ℕ) → Delivers combine q xs (all (relationsOf q)) (q .target) c → length xs ≤ mostSteps →
     checked combine q (planBytes xs) ≡ accepted c
 unfolding checked finish
 plan-allowed combine q xs c d few =
-    rw (le-leb 1 (length xs) (d .long), le-leb (length xs) 34 few, eq-eqb (length (stepBytes xs)) (2 * length xs) (step-bytes-long xs), steps-back xs)
+    rw (le-leb 1 (length xs) (d .long), le-leb (length xs) mostSteps few, eq-eqb (length (stepBytes xs)) (2 * length xs) (step-bytes-long xs), steps-back xs)
     (ran-ends combine q xs 0 start _ (d .puts start (λ i. omega (arith, bit-none i, bit-le (all (relationsOf q)) i)))
     ∙ rw (eq-eqb (all (relationsOf q)) (all (relationsOf q)) refl, eq-eqb (q .target) (q .target) refl))
 
@@ -145,5 +145,5 @@ written-law combine laws q v c e =
     let whole = subqueries-law (q .joins) (relationsOf q) (v .tree) .whole in
     let d : Delivers combine q (writtenSteps combine q) (all (relationsOf q)) (q .target) c =
     delivers combine q v (relationsOf q) (all (relationsOf q)) (q .target) c whole (ones-most q v (all (relationsOf q)) whole) (v .target-in) e in
-    let few : length (writtenSteps combine q) ≤ 34 = omega (arith, d .short, ones-ones (relationsOf q), v .relations-most) in
+    let few : length (writtenSteps combine q) ≤ mostSteps = omega (arith, d .short, ones-ones (relationsOf q), v .relations-most) in
     record { some-step = d .long; few-steps = few; allowed = plan-allowed combine q (writtenSteps combine q) c d few }

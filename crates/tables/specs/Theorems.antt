@@ -9,14 +9,10 @@ use Rattle.relations.specs.Trees.{Subquery}
 use Rattle.query.specs.declared.Query.{Query}
 use Rattle.query.specs.Cost.{none, some, AtMost}
 use Rattle.query.specs.Query.{Valid, relationsOf}
-use Rattle.rules.specs.Plans.{AllowedAt}
+use Rattle.rules.specs.Combine.{Combines}
+use Rattle.rules.specs.Plans.{mostSteps, AllowedAt}
 use Rattle.tables.specs.Tables.{deliveredBy, delivered, joined, cheapest}
 use Rattle.tables.specs.Plan.{deliveredSteps, writtenDelivered, writtenJoined, writtenSteps, written}
-
--- What a combination of two operands' figures must keep to: the sum does.
-pub record Combines (combine : ℕ → ℕ → ℕ) : Type 0 where
-  pub mono : (a b x y : ℕ) → a ≤ x → b ≤ y → combine a b ≤ combine x y
-  pub comm : (a b : ℕ) → combine a b ≡ combine b a
 
 -- The tables' own equations, without a limit on relations: Delivered by Joined of the same subquery. (Joined's is its definition.)
 abbrev pub DeliveredIs : Type 0
@@ -30,10 +26,10 @@ WrittenIs =
     (combine : ℕ → ℕ → ℕ) (q : Query) → Valid q → (S t c : ℕ) → Subquery (q .joins) (relationsOf q) S → delivered combine q S t ≡ some c →
     writtenDelivered combine q S t ≡ deliveredSteps combine (writtenJoined combine q S) q S t
 
--- Where Delivered(all, query site) is a number, the written plan has 1 to 34 steps, is allowed, and costs exactly that number.
+-- Where Delivered(all, query site) is a number, the written plan has a step and at most `mostSteps`, is allowed, and costs exactly that number.
 pub record WrittenAt (combine : ℕ → ℕ → ℕ) (q : Query) (c : ℕ) : Type 0 where
   pub some-step : 1 ≤ length (writtenSteps combine q)
-  pub few-steps : length (writtenSteps combine q) ≤ 34
+  pub few-steps : length (writtenSteps combine q) ≤ mostSteps
   pub allowed : AllowedAt combine q (written combine q) c
 
 abbrev pub WrittenLaw : Type 0
@@ -48,10 +44,13 @@ abbrev pub NoRouteLaw : Type 0
 NoRouteLaw =
     (combine : ℕ → ℕ → ℕ) → Combines combine → (q : Query) → Valid q → (cheapest combine q ≡ none) ↔ ((plan : List ℕ) (c : ℕ) → AllowedAt combine q plan c → ⊥)
 
--- No plan of base costs more than 41,000,025,000,000.
+-- No plan of base costs more than this.
+abbrev pub mostCost : ℕ
+mostCost = 41_000_025_000_000
+
 abbrev pub PlanMostLaw : Type 0
-PlanMostLaw = (q : Query) → Valid q → (plan : List ℕ) (c : ℕ) → AllowedAt _+_ q plan c → c ≤ 41_000_025_000_000
+PlanMostLaw = (q : Query) → Valid q → (plan : List ℕ) (c : ℕ) → AllowedAt _+_ q plan c → c ≤ mostCost
 
 -- Nor is any figure of the tables above it, of whatever subquery.
 abbrev pub MostLaw : Type 0
-MostLaw = (q : Query) → Valid q → (S t c : ℕ) → Subquery (q .joins) (relationsOf q) S → delivered _+_ q S t ≡ some c → c ≤ 41_000_025_000_000
+MostLaw = (q : Query) → Valid q → (S t c : ℕ) → Subquery (q .joins) (relationsOf q) S → delivered _+_ q S t ≡ some c → c ≤ mostCost
