@@ -15,6 +15,7 @@ use Rattle.query.specs.Fields as fields
 use Rattle.query.specs.Decode.{decode}
 use Rattle.query.specs.Query.{sitesOf}
 use Rattle.tables.specs.Tables.{cheapest}
+use Rattle.tables.specs.Work.{cellsNeeded}
 use Rattle.planner.specs.declared.Planner.{Planner}
 use Rattle.planner.specs.State.{State}
 use Rattle.planner.specs.Done.{Done}
@@ -68,7 +69,7 @@ picked-query false x y h k = k
 
 solve-standing : (o : Option Query) (n : ℕ) (s : State) → o ≡ s .query → solveQuery o n s .next .query ≡ o
 solve-standing none n s e = sym e
-solve-standing (some q) n s e = picked-query (ltb n 4096) _ (solved q (cheapest _+_ q)) (sym e) (solved-query q (cheapest _+_ q))
+solve-standing (some q) n s e = picked-query (ltb n (cellsNeeded q)) _ (solved q (cheapest _+_ q)) (sym e) (solved-query q (cheapest _+_ q))
 
 solve-query : (n : ℕ) (s : State) → solve n s .next .query ≡ s .query
 unfolding solve

@@ -15,6 +15,7 @@ use Rattle.query.specs.Cost.{Cost}
 use Rattle.query.specs.Query.{Valid}
 use Rattle.tables.specs.Tables.{cheapest, trials}
 use Rattle.tables.specs.Plan.{written}
+use Rattle.tables.specs.Work.{cellsNeeded}
 use Rattle.tables.proofs.Upper.{written-law}
 use Rattle.tables.proofs.Lower.{cheapest-law}
 use Rattle.rules.proofs.Combine.{plus-combines}
@@ -42,14 +43,14 @@ standing-valid p q s = go (p .loaded) refl
     go false e f = absurd (let z : _≡_ {A = ℕ} 0 1 = cc in omega arith)
 
 -- An admitted solve has a query in force, and cells enough.
-admitted : (o : Option Query) (n : ℕ) → solveAdmitted o n ≡ true → (q : Query) × (o ≡ some q) × (4096 ≤ n)
+admitted : (o : Option Query) (n : ℕ) → solveAdmitted o n ≡ true → (q : Query) × (o ≡ some q) × (cellsNeeded q ≤ n)
 admitted none n e = absurd (let z : _≡_ {A = ℕ} 0 1 = cc in omega arith)
-admitted (some q) n e = (q, refl, leb-true 4096 n e)
+admitted (some q) n e = (q, refl, leb-true (cellsNeeded q) n e)
 
 -- Then it comes to what the query costs.
-solve-is : (s : State) (q : Query) (n : ℕ) → s .query ≡ some q → 4096 ≤ n → solve n s ≡ solved q (cheapest _+_ q)
+solve-is : (s : State) (q : Query) (n : ℕ) → s .query ≡ some q → cellsNeeded q ≤ n → solve n s ≡ solved q (cheapest _+_ q)
 unfolding solve
-solve-is s q n e h = rw (e, le-ltb n 4096 h)
+solve-is s q n e h = rw (e, le-ltb n (cellsNeeded q) h)
 
 module _ (q : Query) (valid : Valid q) (a : Answer) (p : Planner) where
   -- What solve answers, by what the query costs, is right.

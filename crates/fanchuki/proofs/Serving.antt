@@ -16,6 +16,7 @@ use Rattle.query.specs.Fields as fields
 use Rattle.query.specs.Decode.{decode}
 use Rattle.query.proofs.Refusals.{decode-refusals}
 use Rattle.tables.specs.Tables.{cheapest}
+use Rattle.tables.specs.Work.{cellsNeeded}
 use Rattle.planner.specs.declared.Planner.{Planner}
 use Rattle.planner.specs.declared.LoadAnswer.{LoadAnswer}
 use Rattle.planner.specs.declared.SolveAnswer.{SolveAnswer}
@@ -24,11 +25,12 @@ use Rattle.planner.specs.State.{Kept, State, nothing}
 use Rattle.planner.specs.Done.{Done}
 use Rattle.planner.specs.Load.{loaded, load, loadDecoded}
 use Rattle.planner.specs.Load as Load
-use Rattle.planner.specs.Solve.{found, noRoute, solve, solveQuery, solved}
+use Rattle.planner.specs.Solve.{found, noRoute, solve, solveQuery, solved, needed}
 use Rattle.planner.specs.Solve as Solve
 use Rattle.planner.specs.Read.{wrote, Reading, readingOf, readKept, readQuery, read}
 use Rattle.planner.specs.Read as Read-call
 use Rattle.planner.specs.Contracts.{stateOf, doneOf, ofLoad, ofSolve, ofRead}
+use Rattle.planner.proofs.Cells.{needed-enough, solve-enough}
 use Rattle.fanchuki.specs.Served.{served, serveRead, serveSolve, serve}
 
 -- A refusal is a number of a byte. Of two choices by one test: both are below a limit, so the one that is chosen is.
@@ -81,23 +83,26 @@ solve-low n s = go (s .query)
   where
     go : (o : Option Query) → solveRefusal (solveQuery o n s .answer) ≤ 255
     go none = omega arith
-    go (some q) = picked-low (λ (d : Done Solve.Answer). solveRefusal (d .answer)) (ltb n 4096) (omega arith) (solved-low q (cheapest _+_ q))
+    go (some q) = picked-low (λ (d : Done Solve.Answer). solveRefusal (d .answer)) (ltb n (cellsNeeded q)) (omega arith) (solved-low q (cheapest _+_ q))
 
-module _ (a : SolveAnswer) (p : Planner) (s : State) (done : doneOf (ofSolve a) p ≡ solve 4096 s) where
-  pub solve-found : (c : Charge) (t n : ℕ) (new out : List ℕ) → a ≡ SolveAnswer.Found c t → served n new ≡ serveRead (stateOf p) out → served n new ≡ serveSolve s out
+module _ (a : SolveAnswer) (p : Planner) (s : State) (n : ℕ) (done : doneOf (ofSolve a) p ≡ solve n s) (enough : needed (s .query) ≤ n) where
+  as-needed : doneOf (ofSolve a) p ≡ solve (needed (s .query)) s
+  as-needed = done ∙ solve-enough n s enough
+
+  pub solve-found : (c : Charge) (t k : ℕ) (new out : List ℕ) → a ≡ SolveAnswer.Found c t → served k new ≡ serveRead (stateOf p) out → served k new ≡ serveSolve s out
   unfolding serveSolve
-  solve-found c t n new out is e = rw (← done, is) e
+  solve-found c t k new out is e = rw (← as-needed, is) e
 
   pub solve-none : (t : ℕ) (out : List ℕ) → a ≡ SolveAnswer.NoRoute t → served 0 out ≡ serveSolve s out
   unfolding serveSolve
-  solve-none t out is = rw (← done, is)
+  solve-none t out is = rw (← as-needed, is)
 
-  pub solve-refused : (k n : ℕ) (out : List ℕ) → a ≡ SolveAnswer.Refused k → n ≡ 256 + k → served n out ≡ serveSolve s out
+  pub solve-refused : (k m : ℕ) (out : List ℕ) → a ≡ SolveAnswer.Refused k → m ≡ 256 + k → served m out ≡ serveSolve s out
   unfolding serveSolve
-  solve-refused k n out is e = rw (← done, is, e)
+  solve-refused k m out is e = rw (← as-needed, is, e)
 
   pub solve-byte : (k : ℕ) → a ≡ SolveAnswer.Refused k → k ≤ 255
-  solve-byte k is = rw (← done, is) at (solve-low 4096 s)
+  solve-byte k is = rw (← done, is) at (solve-low n s)
 
 -- A query that was loaded, on an empty planner, is solved; else the output stays.
 abbrev loadRefusal : Load.Answer → ℕ
@@ -129,6 +134,6 @@ module _ (a : LoadAnswer) (p first : Planner) (query : List ℕ) (empty : stateO
 
 pub ruleset reading-laws = (read-wrote, read-refused, read-byte)
 
-pub ruleset solving-laws = (solve-found, solve-none, solve-refused, solve-byte)
+pub ruleset solving-laws = (solve-found, solve-none, solve-refused, solve-byte, needed-enough)
 
 pub ruleset loading-laws = (load-goes, load-refused, load-byte)

@@ -4,14 +4,14 @@ use mathlib.Core.List.{List}
 use mathlib.Core.Path.{_≡_}
 use mathlib.Core.Bool.{true, false}
 use Rattle.query.specs.declared.Charge.{Charge}
-use Rattle.query.specs.Query.{Valid}
 use Rattle.rules.specs.declared.Checked.{Checked}
 use Rattle.rules.specs.declared.Checked.the-variants.{Accepted, Rejected}
 use Rattle.rules.specs.Plans.{checked}
 use Rattle.rules.specs.Code.{verdictOf}
 use Rattle.planner.specs.declared.Planner.{Planner}
 use Rattle.planner.specs.Check.{allowed, refused, check}
-use Rattle.planner.specs.Contracts.{stateOf, Sound}
+use Rattle.planner.specs.Contracts.{stateOf}
+use Rattle.planner.proofs.Standing.{standing-valid}
 
 pub check-nothing : (p : Planner) (plan : List ℕ) → p .loaded ≡ false → refused 20 0 ≡ check plan (stateOf p)
 unfolding check
@@ -25,8 +25,5 @@ module _ (p : Planner) (plan : List ℕ) (r : Checked) (loaded : p .loaded ≡ t
   pub check-rejected : (k i : ℕ) → r ≡ Rejected k i → refused k i ≡ check plan (stateOf p)
   unfolding check
   check-rejected k i e = rw (loaded, ← verdict, e)
-
-pub standing-valid : (p : Planner) → Sound p → p .loaded ≡ true → Valid (p .query)
-standing-valid p s e = s .valid e
 
 pub ruleset checking = (check-nothing, check-accepted, check-rejected, standing-valid)

@@ -49,12 +49,19 @@ link-sound p r l s e u ranged in-range h m =
     }
 
 -- Listed sites are below eight.
-pub listed-low : (p : Planner) (a b : ℕ) → Sound p → p .loaded ≡ true → (t : Bool) → t ≡ sitesListed (sitesOf (p .query)) a b → t ≡ true → (a < 8) × (b < 8)
-unfolding sitesListed
-listed-low p a b s e t listed f =
-    let n = sitesOf (p .query) in
-    let h = both-true (ltb a n) (ltb b n) (both-true (ltb a n && ltb b n) _ (sym listed ∙ f) .0) in
-    let v = s .valid e in
-    omega (arith, ltb-true a n (h .0), ltb-true b n (h .1))
+module _ (p : Planner) (a b : ℕ) (sound : Sound p) (loaded : p .loaded ≡ true) (t : Bool) (listed : t ≡ sitesListed (sitesOf (p .query)) a b) (both : t ≡ true) where
+  both-low : (a < 8) × (b < 8)
+  unfolding sitesListed
+  both-low =
+      let n = sitesOf (p .query) in
+      let h = both-true (ltb a n) (ltb b n) (both-true (ltb a n && ltb b n) _ (sym listed ∙ both) .0) in
+      let v = sound .valid loaded in
+      omega (arith, ltb-true a n (h .0), ltb-true b n (h .1))
 
-pub ruleset linking = (link-nothing, link-unlisted, link-out, link-goes, link-sound, listed-low)
+  pub sender-low : a < 8
+  sender-low = both-low .0
+
+  pub receiver-low : b < 8
+  receiver-low = both-low .1
+
+pub ruleset linking = (link-nothing, link-unlisted, link-out, link-goes, link-sound, sender-low, receiver-low)

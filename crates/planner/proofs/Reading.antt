@@ -7,6 +7,7 @@ use lib.ListN.{length, take, drop}
 use lib.Seq.{length-take-le, take-length}
 use borrow.Author.Tests.{lt-ltb, le-ltb}
 use native.Mathlib.Omega.{arith}
+use Rattle.rules.specs.Plans.{longestPlan}
 use Rattle.planner.specs.declared.Planner.{Planner}
 use Rattle.planner.specs.Read.{wrote, refused, readingOf, read}
 use Rattle.planner.specs.Contracts.{stateOf, Sound}
@@ -31,6 +32,15 @@ module _ (p : Planner) (out : List ℕ) (loaded : p .loaded ≡ true) (kept : p 
   unfolding read
   read-goes h new e = rw (loaded, kept, e, take-length (take (p .length) (p .plan)), length-take-le (p .length) (p .plan) whole, le-ltb (length out) (p .length) h)
 
--- A kept plan lies within its array.
-pub plan-whole : (p : Planner) → Sound p → length (p .plan) ≡ 69 → p .length ≤ length (p .plan)
-plan-whole p s e = omega (arith, s .short)
+-- A kept plan lies within its array: what is copied has the plan's length, and goes where the output has room for that.
+module _ (p : Planner) (sound : Sound p) (room : length (p .plan) ≡ longestPlan) where
+  pub plan-whole : p .length ≤ length (p .plan)
+  plan-whole = omega (arith, sound .short)
+
+  pub plan-length : p .length ≡ length (take (p .length) (p .plan))
+  plan-length = rw (length-take-le (p .length) (p .plan) plan-whole)
+
+  pub plan-fits : (n : ℕ) → p .length ≤ n → length (take (p .length) (p .plan)) ≤ n
+  plan-fits n h = rw (← plan-length) h
+
+pub ruleset reading = (read-nothing, read-unkept, read-short, read-goes, plan-whole, plan-length, plan-fits)

@@ -6,6 +6,7 @@ use mathlib.Core.Option.{Option, none, some}
 use lib.ListN.{take}
 use Rattle.query.specs.Choice.{pick}
 use Rattle.query.specs.Query.{Valid}
+use Rattle.rules.specs.Plans.{longestPlan}
 use Rattle.planner.specs.declared.Planner.{Planner}
 use Rattle.planner.specs.declared.LoadAnswer.{LoadAnswer}
 use Rattle.planner.specs.declared.LinkAnswer.{LinkAnswer}
@@ -54,8 +55,8 @@ abbrev pub ofCheck : CheckAnswer → Check.Answer
 ofCheck (CheckAnswer.Accepted c) = Check.allowed (c .0)
 ofCheck (CheckAnswer.Refused k place) = Check.refused k place
 
--- What holds of every planner that the calls make: a standing query is valid, and a kept plan has at most 69 bytes.
+-- What holds of every planner that the calls make: a standing query is valid, and a kept plan is no longer than a plan may be.
 -- Every list of calls gives such a planner: `Runs` and its laws.
 pub record Sound (p : Planner) : Type 0 where
   pub valid : p .loaded ≡ true → Valid (p .query)
-  pub short : p .length ≤ 69
+  pub short : p .length ≤ longestPlan

@@ -9,6 +9,7 @@ use Rattle.query.specs.Choice.{pick}
 use Rattle.query.specs.Cost.{Cost}
 use Rattle.tables.specs.Tables.{cheapest, trials}
 use Rattle.tables.specs.Plan.{written}
+use Rattle.tables.specs.Work.{cellsNeeded}
 use Rattle.planner.specs.State.{State, standing}
 use Rattle.planner.specs.Done.{Done, doneWith}
 
@@ -25,7 +26,7 @@ solved q (Cost.some c) = doneWith (found c (trials q)) (record { query = some q;
 -- A refusal changes no state.
 abbrev pub solveQuery : Option Query → ℕ → State → Done Answer
 solveQuery none cells s = doneWith (refused 20) s
-solveQuery (some q) cells s = pick (ltb cells 4096) (doneWith (refused 21) s) (solved q (cheapest _+_ q))
+solveQuery (some q) cells s = pick (ltb cells (cellsNeeded q)) (doneWith (refused 21) s) (solved q (cheapest _+_ q))
 
 unfoldable pub solve : ℕ → State → Done Answer
 solve cells s = solveQuery (s .query) cells s
@@ -33,4 +34,9 @@ solve cells s = solveQuery (s .query) cells s
 -- Solve is admitted: none of its refusals applies.
 abbrev pub solveAdmitted : Option Query → ℕ → Bool
 solveAdmitted none cells = false
-solveAdmitted (some q) cells = leb 4096 cells
+solveAdmitted (some q) cells = leb (cellsNeeded q) cells
+
+-- What so many first cells then hold is free; later cells stay. Where nothing is loaded all stay.
+abbrev pub needed : Option Query → ℕ
+needed none = 0
+needed (some q) = cellsNeeded q

@@ -10,6 +10,11 @@ pub use calls::solve;
 use query::Charge;
 use query::Query;
 
+// The cells that solve needs, whatever the query (`cellsNeeded`).
+pub const CELLS: usize = 4096;
+// The bytes of the longest plan (`longestPlan`).
+pub const LONGEST_PLAN: usize = 69;
+
 // The standing state. Its fields are private, so that only the calls make one.
 pub struct Planner {
     // Whether a query stands, and the query.
@@ -19,7 +24,7 @@ pub struct Planner {
     kept: bool,
     cost: Charge,
     length: usize,
-    plan: [u8; 69],
+    plan: [u8; LONGEST_PLAN],
 }
 
 // What load answers: the number of relations and of subqueries, or the refusal's number.

@@ -1,4 +1,5 @@
 // For the benchmark: many solves of one query on one planner.
+use planner::CELLS;
 use planner::Planner;
 use planner::SolveAnswer;
 ghost use Prim.Native.Nat.{_≤_};
@@ -20,7 +21,7 @@ fn solves(start: Planner, times: u64) -> u64
     requires { ⌜ Sound start ⌝ }
     ensures { λ r. ⌜ r ≤ times ⌝ }
 {
-    let mut cells = [0u64; 4096];
+    let mut cells = [0u64; CELLS];
     let mut p = start;
     let mut plans = 0;
     let mut i = 0;
