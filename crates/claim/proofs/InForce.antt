@@ -1,29 +1,25 @@
 -- Every planner that a list of calls gives is sound, and the query that stands in it is the query in force: by induction over the list.
-use Prim.Native.Nat.{ℕ, _+_}
+use Prim.Native.Nat.{ℕ}
 use mathlib.Core.Path.{_≡_, refl, sym, ap, _∙_}
 use mathlib.Core.Bool.{Bool, true, false}
 use mathlib.Core.List.{List, [], _∷_}
 use mathlib.Core.Option.{Option, none, some}
 use lib.ListN.{length}
-use lib.Dec.{ltb}
 use denote.Ref.{now}
 use Rattle.query.specs.declared.Query.{Query}
 use Rattle.query.specs.Choice.{pick}
-use Rattle.query.specs.Cost.{Cost}
 use Rattle.query.specs.Fields.{Read, value}
 use Rattle.query.specs.Fields as fields
 use Rattle.query.specs.Decode.{decode}
 use Rattle.query.specs.Query.{sitesOf}
-use Rattle.tables.specs.Tables.{cheapest}
-use Rattle.tables.specs.Work.{cellsNeeded}
 use Rattle.planner.specs.declared.Planner.{Planner}
 use Rattle.planner.specs.State.{State}
 use Rattle.planner.specs.Done.{Done}
 use Rattle.planner.specs.Load.{load, loadDecoded}
 use Rattle.planner.specs.Link as linking
 use Rattle.planner.specs.Link.{Link, linkOf, sitesListed, termsInRange, link, linkQuery}
-use Rattle.planner.specs.Solve.{solve, solveQuery, solved}
 use Rattle.planner.specs.Contracts.{stateOf, Sound}
+use Rattle.planner.proofs.Again.{solve-query}
 use Rattle.claim.specs.Lists.{Call, afterLoad, afterLink, inForce, Runs, at-first, loads, links, solves, reads, checks}
 
 pub sound : {calls : List Call} {p : Planner} → Runs calls p → Sound p
@@ -57,23 +53,6 @@ linked-query (some q) l s e =
 link-query : (l : Link) (s : State) → link l s .next .query ≡ afterLink l (s .query)
 unfolding link
 link-query l s = linked-query (s .query) l s refl
-
-solved-query : (q : Query) (c : Cost) → solved q c .next .query ≡ some q
-solved-query q Cost.none = refl
-solved-query q (Cost.some c) = refl
-
--- Either way of a test leaves the query.
-picked-query : {A : Type 0} (t : Bool) (x y : Done A) {o : Option Query} → x .next .query ≡ o → y .next .query ≡ o → (pick t x y) .next .query ≡ o
-picked-query true x y h k = h
-picked-query false x y h k = k
-
-solve-standing : (o : Option Query) (n : ℕ) (s : State) → o ≡ s .query → solveQuery o n s .next .query ≡ o
-solve-standing none n s e = sym e
-solve-standing (some q) n s e = picked-query (ltb n (cellsNeeded q)) _ (solved q (cheapest _+_ q)) (sym e) (solved-query q (cheapest _+_ q))
-
-solve-query : (n : ℕ) (s : State) → solve n s .next .query ≡ s .query
-unfolding solve
-solve-query n s = solve-standing (s .query) n s refl
 
 -- What a call leaves standing, by what its definition does.
 left-standing : {A : Type 0} {d e : Done A} → d ≡ e → d .next .query ≡ e .next .query

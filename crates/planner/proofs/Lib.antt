@@ -2,6 +2,7 @@ pub mod Standing
 pub mod Loading
 pub mod Linking
 pub mod Cells
+pub mod Again
 pub mod Solving
 pub mod Reading
 pub mod Checking

@@ -10,7 +10,7 @@ use native.Mathlib.Omega.{arith}
 use Rattle.rules.specs.Plans.{longestPlan}
 use Rattle.planner.specs.declared.Planner.{Planner}
 use Rattle.planner.specs.Read.{wrote, refused, readingOf, read}
-use Rattle.planner.specs.Contracts.{stateOf, Sound}
+use Rattle.planner.specs.Contracts.{stateOf}
 
 pub read-nothing : (p : Planner) (out : List ℕ) → p .loaded ≡ false → readingOf (refused 20) out ≡ read out (stateOf p)
 unfolding read
@@ -32,15 +32,15 @@ module _ (p : Planner) (out : List ℕ) (loaded : p .loaded ≡ true) (kept : p 
   unfolding read
   read-goes h new e = rw (loaded, kept, e, take-length (take (p .length) (p .plan)), length-take-le (p .length) (p .plan) whole, le-ltb (length out) (p .length) h)
 
--- A kept plan lies within its array: what is copied has the plan's length, and goes where the output has room for that.
-module _ (p : Planner) (sound : Sound p) (room : length (p .plan) ≡ longestPlan) where
-  pub plan-whole : p .length ≤ length (p .plan)
-  plan-whole = omega (arith, sound .short)
+-- So many bytes of a plan's array, no more than it has: their front has that length, and goes where there is room for it.
+module _ (p : Planner) (m : ℕ) (short : m ≤ longestPlan) (room : length (p .plan) ≡ longestPlan) where
+  pub plan-whole : m ≤ length (p .plan)
+  plan-whole = omega arith
 
-  pub plan-length : p .length ≡ length (take (p .length) (p .plan))
-  plan-length = rw (length-take-le (p .length) (p .plan) plan-whole)
+  pub plan-length : m ≡ length (take m (p .plan))
+  plan-length = rw (length-take-le m (p .plan) plan-whole)
 
-  pub plan-fits : (n : ℕ) → p .length ≤ n → length (take (p .length) (p .plan)) ≤ n
+  pub plan-fits : (n : ℕ) → m ≤ n → length (take m (p .plan)) ≤ n
   plan-fits n h = rw (← plan-length) h
 
 pub ruleset reading = (read-nothing, read-unkept, read-short, read-goes, plan-whole, plan-length, plan-fits)
