@@ -4,7 +4,6 @@ use native.Mathlib.Omega.{arith}
 use mathlib.Core.Path.{_≡_, refl, sym, ap, subst, _∙_}
 use mathlib.Core.Logic.{_↔_}
 use mathlib.Core.Bool.{Bool, true, false}
-use mathlib.Core.List.{List}
 use mathlib.Core.Option.{Option, none, some}
 use lib.ListN.{length}
 use denote.Ref.{now}
@@ -26,7 +25,7 @@ use Rattle.planner.specs.Done.{Done}
 use Rattle.planner.specs.Solve.{Answer, noRoute, solve, solved, solveAdmitted}
 use Rattle.planner.specs.Contracts.{stateOf, doneOf, ofSolve, Sound}
 use Rattle.claim.specs.Lists.{inForce}
-use Rattle.claim.specs.Claim.{NoPlan, Right, Solved, Demand3, EveryCall}
+use Rattle.claim.specs.Claim.{NoPlan, Right, Demand3, EveryCall}
 use Rattle.claim.proofs.InForce.{sound, stands}
 
 pub every-call : EveryCall

@@ -1,7 +1,6 @@
 -- Lists of calls: what a call brings, which planners a list can give, and the query in force, which is worked out from the list alone.
 use Prim.{tt}
 use Prim.Native.Nat.{ℕ}
-use mathlib.Core.Bool.{Bool, true, false}
 use mathlib.Core.List.{List, [], _∷_}
 use mathlib.Core.Option.{Option, none, some}
 use denote.Ref.{RefT, now}

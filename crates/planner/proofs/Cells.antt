@@ -1,4 +1,4 @@
--- The cells that solve needs: the code's constant is the definition's number, and more cells change nothing.
+-- The cells that solve needs: how the code's constant stands to the definition, and that more cells change nothing.
 use Prim.Native.Nat.{ℕ, _≤_, _<_}
 use native.Mathlib.Omega.{arith}
 use mathlib.Core.Path.{_≡_, refl}
@@ -14,23 +14,30 @@ use Rattle.planner.specs.State.{State}
 use Rattle.planner.specs.Solve.{solveQuery, solve, needed}
 use Rattle.planner.specs.Contracts.{stateOf}
 
-pub cells-needed : (q : Query) → cellsNeeded q ≡ 4_096
+-- The code's constant `CELLS`.
+abbrev pub ampleCells : ℕ
+ampleCells = 4_096
+
+pub cells-needed : (q : Query) → cellsNeeded q ≡ ampleCells
 unfolding cellsNeeded
 cells-needed q = refl
 
-pub cells-few : (q : Query) (n : ℕ) → n < 4_096 → n < cellsNeeded q
-cells-few q n h = omega (arith, cells-needed q)
+-- Fewer than the constant are too few.
+pub cells-few : (q : Query) (n m : ℕ) → n < m → m ≤ ampleCells → n < cellsNeeded q
+cells-few q n m h k = omega (arith, cells-needed q)
 
-pub cells-enough : (q : Query) (n : ℕ) → 4_096 ≤ n → cellsNeeded q ≤ n
+pub cells-enough : (q : Query) (n : ℕ) → ampleCells ≤ n → cellsNeeded q ≤ n
 cells-enough q n h = omega (arith, cells-needed q)
 
 -- So many are enough whatever stands.
-pub needed-enough : (o : Option Query) (n : ℕ) → 4_096 ≤ n → needed o ≤ n
+pub needed-enough : (o : Option Query) (n : ℕ) → ampleCells ≤ n → needed o ≤ n
 needed-enough none n h = omega arith
 needed-enough (some q) n h = cells-enough q n h
 
 -- The later cells, by the query that stands.
-pub cells-later : (p : Planner) (new old : List ℕ) → p .loaded ≡ true → drop 4_096 new ≡ drop 4_096 old → drop (needed (stateOf p .query)) new ≡ drop (needed (stateOf p .query)) old
+pub cells-later :
+    (p : Planner) (new old : List ℕ) → p .loaded ≡ true → drop ampleCells new ≡ drop ampleCells old →
+    drop (needed (stateOf p .query)) new ≡ drop (needed (stateOf p .query)) old
 cells-later p new old loaded e = rw (loaded, cells-needed (p .query)) e
 
 -- Cells past the needed ones change neither the answer nor the state.

@@ -1,8 +1,8 @@
 -- How the code's planner and answers stand for document 01's: a number and values for each case of an answer.
-use Prim.Native.Nat.{ℕ, _≤_}
+use Prim.Native.Nat.{_≤_}
 use mathlib.Core.Path.{_≡_}
-use mathlib.Core.Bool.{Bool, true}
-use mathlib.Core.Option.{Option, none, some}
+use mathlib.Core.Bool.{true}
+use mathlib.Core.Option.{none, some}
 use lib.ListN.{take}
 use Rattle.query.specs.Choice.{pick}
 use Rattle.query.specs.Query.{Valid}

@@ -1,7 +1,7 @@
 -- One more solve counts one plan more, or none: each solve answers as the first did, since it leaves the query.
 use Prim.Native.Nat.{ℕ, _+_, _≤_}
 use native.Mathlib.Omega.{arith}
-use mathlib.Core.Path.{_≡_, refl, sym, ap, _∙_}
+use mathlib.Core.Path.{_≡_, refl, ap, _∙_}
 use mathlib.Core.List.{List}
 use Rattle.planner.specs.declared.Planner.{Planner}
 use Rattle.planner.specs.declared.LoadAnswer.{LoadAnswer}
@@ -9,10 +9,9 @@ use Rattle.planner.specs.declared.SolveAnswer.{SolveAnswer}
 use Rattle.planner.specs.State.{State, nothing}
 use Rattle.planner.specs.Done.{Done}
 use Rattle.planner.specs.Load.{load}
-use Rattle.planner.specs.Load as Load
-use Rattle.planner.specs.Solve.{Answer, found, noRoute, refused, solve, needed}
+use Rattle.planner.specs.Solve.{Answer, found, noRoute, refused, solve}
 use Rattle.planner.specs.Contracts.{stateOf, doneOf, ofLoad, ofSolve}
-use Rattle.planner.proofs.Cells.{needed-enough, solve-enough}
+use Rattle.planner.proofs.Cells.{ampleCells, needed-enough, solve-enough}
 use Rattle.planner.proofs.Again.{solve-query, solve-again}
 use Rattle.timed.specs.Plans.{plansBy, answerIn, plans}
 
@@ -34,13 +33,13 @@ module _ (first p next : Planner) (a : SolveAnswer) (n : ℕ) (done : doneOf (of
   pub query-stays : stateOf next .query ≡ stateOf first .query
   query-stays = ap (λ (d : Done Answer). d .next .query) done ∙ solve-query n (stateOf p) ∙ same
 
-  as-first : n ≡ 4_096 → ofSolve a ≡ answerIn (stateOf first)
+  as-first : n ≡ ampleCells → ofSolve a ≡ answerIn (stateOf first)
   as-first many =
       let s = stateOf p in
       let f = stateOf first in
       ap (λ (d : Done Answer). d .answer) done ∙ solve-again n s f same ∙ ap (λ (d : Done Answer). d .answer) (solve-enough n f (needed-enough (f .query) n (omega arith)))
 
-  module _ (count r i : ℕ) (many : n ≡ 4_096) (counted : count ≡ plansBy (answerIn (stateOf first)) i) (now : r ≡ plansBy (ofSolve a) 1) where
+  module _ (count r i : ℕ) (many : n ≡ ampleCells) (counted : count ≡ plansBy (answerIn (stateOf first)) i) (now : r ≡ plansBy (ofSolve a) 1) where
     pub counted-more : count + r ≡ plansBy (answerIn (stateOf first)) (i + 1)
     counted-more = rw (counted, now, as-first many) (one-more (answerIn (stateOf first)) i)
 

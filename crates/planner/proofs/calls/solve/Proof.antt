@@ -1,10 +1,7 @@
 -- `solve` meets its contract: a refusal changes nothing, and otherwise the solver's answer is the definition's.
-use Prim.Native.Nat.{_<_}
 use borrow.Author.Needs.{needs}
 use mathlib.Core.Path.{refl}
 use native.Mathlib.Omega.{arith}
-use lib.ListN.{length}
-use denote.Ref.{now}
 use Rattle.planner.proofs.Solving.{solving}
 use Rattle.planner.proofs.calls.solve.Statement.{statement}
 use Rattle.planner.proofs.calls.solve.Tie as tie
@@ -14,8 +11,7 @@ solve-spec =
     tie.close
     (tie.spec
     (λ c. (search (needs, solving), (search needs, (refl, λ _. refl))))
-    (λ c. let few : length (now (c .before .before .before .args .cells)) < 4_096 = omega arith in
-    (search (needs, solving), (search needs, (refl, λ _. refl))))
+    (λ c. (search (needs, solving), (search needs, (refl, λ _. refl))))
     (λ c. search needs)
     (λ c κs. (search (needs, solving), (omega arith, omega arith)))
     (λ c. search needs)
