@@ -17,7 +17,7 @@ use Rattle.tables.specs.Plan.{written}
 use Rattle.tables.specs.Work.{cellsNeeded}
 use Rattle.tables.proofs.Upper.{written-law}
 use Rattle.tables.proofs.Lower.{cheapest-law}
-use Rattle.rules.proofs.Combine.{plus-combines}
+use Rattle.rules.proofs.Combinations.{plus-combines}
 use Rattle.tables.proofs.Optimum.{no-route-law}
 use Rattle.planner.specs.declared.Planner.{Planner}
 use Rattle.planner.specs.State.{State}

@@ -20,7 +20,7 @@ use Rattle.tables.specs.Work.{cellsNeeded}
 use Rattle.solver.specs.Solved.{solvedAs, planAfter}
 use Rattle.tables.proofs.StepBytes.{step-bytes-long}
 use Rattle.tables.proofs.Upper.{written-law}
-use Rattle.rules.proofs.Combine.{plus-combines}
+use Rattle.rules.proofs.Combinations.{plus-combines}
 use Rattle.planner.specs.declared.Planner.{Planner}
 use Rattle.planner.specs.Solve.{found, noRoute, refused, solve, solveAdmitted}
 use Rattle.planner.specs.Contracts.{stateOf, doneOf, Sound}

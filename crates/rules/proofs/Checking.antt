@@ -10,14 +10,16 @@ use borrow.Author.Tests.{le-leb, lt-leb, eq-eqb, ne-eqb}
 use Rattle.relations.specs.Sets.{all}
 use Rattle.query.specs.declared.Query.{Query}
 use Rattle.query.specs.Query.{Valid, relationsOf}
+use Rattle.rules.specs.declared.Step.{Step}
 use Rattle.rules.specs.declared.Held.{Held}
 use Rattle.rules.specs.declared.Stepped.{Stepped}
 use Rattle.rules.specs.declared.Outcome.the-variants.{Went, Refused}
 use Rattle.rules.specs.Machine.{Machine, start, went, step}
 use Rattle.rules.specs.Plans.{mostSteps, stepsOf, Verdict, accepted, rejected, after, finish, run, checked}
-use Rattle.rules.specs.Code.{topFirst, machineOf, outcomeOf, numberOf, ofEnd, ofParts, Room}
-use Rattle.rules.proofs.Outcomes.{step-same}
-use Rattle.rules.proofs.Rooms.{step-room}
+use Rattle.rules.specs.Code.{topFirst, machineOf, outcomeOf, numberOf, ofEnd, stepAt, Room}
+use Rattle.rules.proofs.Combinations.{plus-combines}
+use Rattle.rules.proofs.Outcomes.{parts, step-same}
+use Rattle.rules.proofs.Counting.{step-room}
 
 pub start-is : (s : List Held) → s ≡ [] → _≡_ {A = Machine} (record { loaded = 0; stack = s }) start
 start-is s e = rw e
@@ -35,23 +37,20 @@ module _ (q : Query) (i : ℕ) (o : Verdict) where
   finish-other a (suc zero) h e = absurd (h refl)
   finish-other a (suc (suc d)) h e = e
 
-  pub finish-part : (s a : List Held) (d e w : ℕ) (h : Held) → s ≡ h ∷ topFirst a d → d + 1 ≡ e → e ≡ 1 → w ≡ all (relationsOf q) → (h .set ≡ w → ⊥) →
-      o ≡ rejected 12 i → o ≡ finish q i s
-  unfolding finish
-  finish-part s a d e w h f p one every less r =
-      r ∙ rw (alone s a d e h f p one, ne-eqb (h .set) (all (relationsOf q)) (λ x. less (x ∙ sym every)))
+  module _ (s a : List Held) (d e w : ℕ) (h : Held) (f : s ≡ h ∷ topFirst a d) (p : d + 1 ≡ e) (one : e ≡ 1) (every : w ≡ all (relationsOf q)) where
+    pub finish-part : (h .set ≡ w → ⊥) → o ≡ rejected 12 i → o ≡ finish q i s
+    unfolding finish
+    finish-part less r = r ∙ rw (alone s a d e h f p one, ne-eqb (h .set) (all (relationsOf q)) (λ x. less (x ∙ sym every)))
 
-  pub finish-away : (s a : List Held) (d e w : ℕ) (h : Held) → s ≡ h ∷ topFirst a d → d + 1 ≡ e → e ≡ 1 → w ≡ all (relationsOf q) → h .set ≡ w →
-      (h .site ≡ q .target → ⊥) → o ≡ rejected 12 i → o ≡ finish q i s
-  unfolding finish
-  finish-away s a d e w h f p one every full away r =
-      r ∙ rw (alone s a d e h f p one, eq-eqb (h .set) (all (relationsOf q)) (full ∙ every), ne-eqb (h .site) (q .target) away)
+    pub finish-away : h .set ≡ w → (h .site ≡ q .target → ⊥) → o ≡ rejected 12 i → o ≡ finish q i s
+    unfolding finish
+    finish-away full away r =
+        r ∙ rw (alone s a d e h f p one, eq-eqb (h .set) (all (relationsOf q)) (full ∙ every), ne-eqb (h .site) (q .target) away)
 
-pub finish-there : (q : Query) (i : ℕ) (s a : List Held) (d e w : ℕ) (h : Held) → s ≡ h ∷ topFirst a d → d + 1 ≡ e → e ≡ 1 → w ≡ all (relationsOf q) →
-    h .set ≡ w → h .site ≡ q .target → accepted (h .figure .0) ≡ finish q i s
-unfolding finish
-finish-there q i s a d e w h f p one every full there =
-    rw (alone s a d e h f p one, eq-eqb (h .set) (all (relationsOf q)) (full ∙ every), eq-eqb (h .site) (q .target) there)
+    pub finish-there : h .set ≡ w → h .site ≡ q .target → o ≡ accepted (h .figure .0) → o ≡ finish q i s
+    unfolding finish
+    finish-there full there r =
+        r ∙ rw (alone s a d e h f p one, eq-eqb (h .set) (all (relationsOf q)) (full ∙ every), eq-eqb (h .site) (q .target) there)
 
 -- The end condition looks at the number of relations and the query site alone.
 finish-same : (q : Query) (i : ℕ) (s : List Held) → finish (ofEnd (relationsOf q) (q .target)) i s ≡ finish q i s
@@ -60,9 +59,12 @@ finish-same q i [] = refl
 finish-same q i (h ∷ []) = refl
 finish-same q i (h ∷ (a ∷ hs)) = refl
 
--- What the code's step gave is the step of kind k and argument a.
-abbrev Took : Query → ℕ → ℕ → Machine → Stepped → Type 0
-Took q k a m s = outcomeOf s ≡ step _+_ (ofParts (q .sites) (q .relations) (q .joins) (q .sizes) (q .lines .flag) (q .lines .fixed) (q .lines .rate)) k a m
+-- What the code's step gave is step x.
+abbrev Took : Query → Step → Machine → Stepped → Type 0
+Took q x m s = outcomeOf s ≡ step _+_ (parts q) (x .kind) (x .arg) m
+
+pub step-at-is : (plan : List ℕ) (i k a : ℕ) → k ≡ getD plan (1 + 2 * i) 0 → a ≡ getD plan (2 + 2 * i) 0 → _≡_ {A = Step} (record { kind = k; arg = a }) (stepAt plan i)
+step-at-is plan i k a one other = rw (one, other)
 
 -- Two bytes of a plan are its next step.
 two-bytes : (plan : List ℕ) (j k l : ℕ) → suc j ≡ k → suc k ≡ l → k < length plan →
@@ -70,27 +72,27 @@ two-bytes : (plan : List ℕ) (j k l : ℕ) → suc j ≡ k → suc k ≡ l → 
 two-bytes plan j k l e f h = rw (← f, ← e, drop-cons plan j 0 (omega arith), drop-cons plan (suc j) 0 (omega arith))
 
 next-step : (plan : List ℕ) (i n : ℕ) → length plan ≡ 1 + 2 * n → i < n →
-    stepsOf (drop (1 + 2 * i) plan) ≡ record { kind = getD plan (1 + 2 * i) 0; arg = getD plan (2 + 2 * i) 0 } ∷ stepsOf (drop (1 + 2 * (i + 1)) plan)
+    stepsOf (drop (1 + 2 * i) plan) ≡ stepAt plan i ∷ stepsOf (drop (1 + 2 * (i + 1)) plan)
 next-step plan i n e l = two-bytes plan (1 + 2 * i) (2 + 2 * i) (1 + 2 * (i + 1)) (omega arith) (omega arith) (omega arith)
 
 -- The verdict of the whole plan is that of the steps from i on.
 module _ (q : Query) (plan : List ℕ) (n i : ℕ) (m : Machine) (whole : Verdict) (long : length plan ≡ 1 + 2 * n)
     (so-far : whole ≡ run _+_ q i (stepsOf (drop (1 + 2 * i) plan)) m) where
-  taken : (s : Stepped) (k a : ℕ) → k ≡ getD plan (1 + 2 * i) 0 → a ≡ getD plan (2 + 2 * i) 0 → Took q k a m s → i < n →
+  taken : (s : Stepped) (x : Step) → x ≡ stepAt plan i → Took q x m s → i < n →
       whole ≡ after i (outcomeOf s) (run _+_ q (suc i) (stepsOf (drop (1 + 2 * (i + 1)) plan)))
   unfolding run
-  taken s k a one other e l = so-far ∙ rw (next-step plan i n long l, e, step-same q k a m, one, other)
+  taken s x is e l = so-far ∙ rw (next-step plan i n long l, e, step-same q (x .kind) (x .arg) m, is)
 
-  pub run-refused : (s : Stepped) (k a r j : ℕ) (o : Verdict) → k ≡ getD plan (1 + 2 * i) 0 → a ≡ getD plan (2 + 2 * i) 0 → Took q k a m s → i < n →
-      s .outcome ≡ Refused r → j ≡ numberOf (s .outcome) → o ≡ rejected j i → o ≡ whole
-  run-refused s k a r j o one other e l f g h =
-      let told : whole ≡ rejected r i = taken s k a one other e l ∙ rw f in
+  pub run-refused : (s : Stepped) (x : Step) (r j : ℕ) (o : Verdict) → x ≡ stepAt plan i → Took q x m s → i < n → s .outcome ≡ Refused r →
+      j ≡ numberOf (s .outcome) → o ≡ rejected j i → o ≡ whole
+  run-refused s x r j o is e l f g h =
+      let told : whole ≡ rejected r i = taken s x is e l ∙ rw f in
       let same : j ≡ r = g ∙ ap numberOf f in
       h ∙ rw same (sym told)
 
-  pub run-again : (s : Stepped) (k a : ℕ) → k ≡ getD plan (1 + 2 * i) 0 → a ≡ getD plan (2 + 2 * i) 0 → Took q k a m s → i < n → s .outcome ≡ Went →
+  pub run-again : (s : Stepped) (x : Step) → x ≡ stepAt plan i → Took q x m s → i < n → s .outcome ≡ Went →
       whole ≡ run _+_ q (i + 1) (stepsOf (drop (1 + 2 * (i + 1)) plan)) (machineOf (s .state))
-  run-again s k a one other e l f = taken s k a one other e l ∙ rw (f, add-one)
+  run-again s x is e l f = taken s x is e l ∙ rw (f, add-one)
 
   pub run-ends : (o : Verdict) → n ≤ i → o ≡ finish (ofEnd (relationsOf q) (q .target)) i (m .stack) → o ≡ whole
   unfolding run
@@ -99,11 +101,11 @@ module _ (q : Query) (plan : List ℕ) (n i : ℕ) (m : Machine) (whole : Verdic
       e ∙ finish-same q i (m .stack) ∙ sym (so-far ∙ rw none)
 
 -- A step that goes keeps the room.
-pub room-again : (q : Query) (k a : ℕ) (m : Machine) (s : Stepped) → Valid q → Room (relationsOf q) m → Took q k a m s → s .outcome ≡ Went →
-    Room (relationsOf q) (machineOf (s .state))
-room-again q k a m s v room e f =
-    let gone : step _+_ q k a m ≡ went (machineOf (s .state)) = sym (e ∙ step-same q k a m) ∙ rw f in
-    rw gone at (step-room q v (record { kind = k; arg = a }) m room)
+pub room-again : (q : Query) (i : ℕ) (x : Step) (m : Machine) (s : Stepped) → Valid q → Room (relationsOf q) i m → Took q x m s → s .outcome ≡ Went →
+    Room (relationsOf q) (i + 1) (machineOf (s .state))
+room-again q i x m s v room e f =
+    let gone : step _+_ q (x .kind) (x .arg) m ≡ went (machineOf (s .state)) = sym (e ∙ step-same q (x .kind) (x .arg) m) ∙ rw f in
+    rw (gone, ← add-one i) at (step-room _+_ plus-combines q v i x m room)
 
 -- The count byte and the length. Where one is wrong the plan is refused with 7, else it is run.
 module _ (q : Query) (o : Verdict) where

@@ -1,10 +1,12 @@
-pub mod Combine
+pub mod Combinations
 pub mod Steps
 pub mod Links
 pub mod CostIsSum
+pub mod Invariants
 pub mod Kept
 pub mod Runs
 pub mod Stacks
+pub mod Counting
 pub mod Rooms
 pub mod Pricing
 pub mod Outcomes

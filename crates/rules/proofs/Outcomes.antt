@@ -11,13 +11,12 @@ use Rattle.relations.specs.declared.Joins.{Joins}
 use Rattle.relations.specs.Sets.{bit}
 use Rattle.relations.specs.Growth.{first, second}
 use Rattle.query.specs.declared.Query.{Query}
-use Rattle.query.specs.Decode.{noJoins}
 use Rattle.query.specs.Query.{relationsOf, sitesOf, home, index, mayJoin, joinFixed, joinRate, isOpen, lineFixed, lineRate, size}
 use Rattle.query.specs.Prices.{linePrice, joinPrice, indexed}
 use Rattle.rules.specs.declared.Origin.the-variants.{Bare}
 use Rattle.rules.specs.declared.Held.{Held}
 use Rattle.rules.specs.Machine.{Machine, Outcome, went, refused, guard, charge, isSent, load, sentTo, sendTop, send, links, spared, joinOf, joinTop, join, step}
-use Rattle.rules.specs.Code.{topFirst, ofRelations, ofLines, ofSites, ofParts}
+use Rattle.rules.specs.Code.{topFirst, ofRelations, ofLines, ofListed, listedOf, ofParts}
 
 -- A load.
 module _ (q : Query) (r : ℕ) (m : Machine) (o : Outcome) where
@@ -34,10 +33,11 @@ module _ (q : Query) (r : ℕ) (m : Machine) (o : Outcome) where
   unfolding load
   load-goes v w s h b z k f e = e ∙ rw (f, k, lt-ltb r (relationsOf q) h, eq-eqb (bit (m .loaded) r) 0 (sym b ∙ z))
 
--- A send.
-pub sendable-is : (x s s′ : Bool) (v w : ℕ) → v ≡ w → s ≡ s′ → ((x && eqb v 1) && not s) ≡ ((x && eqb w 1) && not s′)
-sendable-is x s s′ v w e f = rw (e, f)
+-- The tests of a send and of a join: the sites, a flag, and the results.
+pub allowed-is : (x y z : Bool) (v w : ℕ) → v ≡ w → y ≡ z → ((x && eqb v 1) && y) ≡ ((x && eqb w 1) && z)
+allowed-is x y z v w e f = rw (e, f)
 
+-- A send.
 module _ (q : Query) (t L : ℕ) (o : Outcome) where
   pub send-unknown : (s : List Held) → sitesOf q ≤ t → o ≡ refused 8 → o ≡ send q t (record { loaded = L; stack = s })
   unfolding send
@@ -63,9 +63,6 @@ module _ (q : Query) (t L : ℕ) (o : Outcome) where
   send-goes s hs s′ h g b l f may good made f′ e = e ∙ rw (f′, made, f, lt-ltb t (sitesOf q) l, sym may ∙ good)
 
 -- A join.
-pub joinable-is : (x l l′ : Bool) (v w : ℕ) → v ≡ w → l ≡ l′ → ((x && eqb v 1) && l) ≡ ((x && eqb w 1) && l′)
-joinable-is x l l′ v w e f = rw (e, f)
-
 pub links-is : (J : Joins) (e P R a b c d : ℕ) → a ≡ bit P (first J e) → b ≡ bit R (second J e) → c ≡ bit P (second J e) → d ≡ bit R (first J e) →
     (eqb (a + b) 2 || eqb (c + d) 2) ≡ links J e P R
 unfolding links
@@ -94,9 +91,9 @@ module _ (q : Query) (e L : ℕ) (o : Outcome) (fewer : q .joins .count + 1 ≡ 
   join-not s hs a b t l f may bad x = x ∙ rw (f, known l, sym may ∙ bad)
 
   pub join-goes : (s hs s′ : List Held) (a b h : Held) (t : Bool) → e < q .joins .count → s ≡ b ∷ (a ∷ hs) → Joinable a b t → t ≡ true →
-      h ≡ joinOf _+_ (ofSites (q .sites) (q .relations) (noJoins 0) (q .sizes)) a b → s′ ≡ h ∷ hs → o ≡ went (record { loaded = L; stack = s′ }) →
+      h ≡ joinOf _+_ q a b → s′ ≡ h ∷ hs → o ≡ went (record { loaded = L; stack = s′ }) →
       o ≡ join _+_ q e (record { loaded = L; stack = s })
-  unfolding join joinTop mayJoin joinPrice joinFixed joinRate size spared indexed home index
+  unfolding join joinTop mayJoin
   join-goes s hs s′ a b h t l f may good made f′ x = x ∙ rw (f′, made, f, known l, sym may ∙ good)
 
 -- A step looks at no part of the query but those that it is lent.
@@ -112,11 +109,11 @@ send-same q t m = ap (guard (ltb t (sitesOf q)) 8) (top (m .stack))
     top [] = refl
     top (h ∷ hs) = refl
 
-pub join-same : (q : Query) (e : ℕ) (m : Machine) → join _+_ (ofSites (q .sites) (q .relations) (q .joins) (q .sizes)) e m ≡ join _+_ q e m
+pub join-same : (q : Query) (e : ℕ) (m : Machine) → join _+_ (ofListed (listedOf q) (q .sizes)) e m ≡ join _+_ q e m
 unfolding join joinTop mayJoin joinPrice joinFixed joinRate size spared indexed home index
 join-same q e m = ap (guard (ltb e (relationsOf q - 1)) 8) (top (m .stack))
   where
-    top : (s : List Held) → joinTop _+_ (ofSites (q .sites) (q .relations) (q .joins) (q .sizes)) e (m .loaded) s ≡ joinTop _+_ q e (m .loaded) s
+    top : (s : List Held) → joinTop _+_ (ofListed (listedOf q) (q .sizes)) e (m .loaded) s ≡ joinTop _+_ q e (m .loaded) s
     top [] = refl
     top (b ∷ []) = refl
     top (b ∷ (a ∷ hs)) = refl
@@ -131,7 +128,7 @@ module _ (q : Query) (kind arg : ℕ) (m : Machine) (o : Outcome) where
   unfolding step
   step-sends k e = e ∙ send-same q arg m ∙ rw (ne-eqb kind 1 (λ z. omega arith), eq-eqb kind 2 k)
 
-  pub step-joins : kind ≡ 3 → o ≡ join _+_ (ofSites (q .sites) (q .relations) (q .joins) (q .sizes)) arg m → o ≡ step _+_ q kind arg m
+  pub step-joins : kind ≡ 3 → o ≡ join _+_ (ofListed (listedOf q) (q .sizes)) arg m → o ≡ step _+_ q kind arg m
   unfolding step
   step-joins k e = e ∙ join-same q arg m ∙ rw (ne-eqb kind 1 (λ z. omega arith), ne-eqb kind 2 (λ z. omega arith), eq-eqb kind 3 k)
 
@@ -139,8 +136,8 @@ module _ (q : Query) (kind arg : ℕ) (m : Machine) (o : Outcome) where
   unfolding step
   step-unknown a b c e = e ∙ rw (ne-eqb kind 1 a, ne-eqb kind 2 b, ne-eqb kind 3 c)
 
-abbrev parts : Query → Query
-parts q = ofParts (q .sites) (q .relations) (q .joins) (q .sizes) (q .lines .flag) (q .lines .fixed) (q .lines .rate)
+abbrev pub parts : Query → Query
+parts q = ofParts (listedOf q) (q .sizes) (q .lines .flag) (q .lines .fixed) (q .lines .rate) 0
 
 pub step-same : (q : Query) (kind arg : ℕ) (m : Machine) → step _+_ (parts q) kind arg m ≡ step _+_ q kind arg m
 unfolding step

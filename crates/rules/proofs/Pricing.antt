@@ -8,19 +8,17 @@ use lib.ListN.{length, getD, List·getD-eq-default}
 use lib.Pow.{pow-mono}
 use mir.Syntax.{w64}
 use mir.Val.{Fits}
-use Rattle.relations.specs.declared.Joins.{Joins}
-use Rattle.query.specs.declared.Sites.{Sites}
 use Rattle.query.specs.declared.Relations.{Relations}
 use Rattle.query.specs.declared.Query.{Query}
 use Rattle.query.specs.Query.{UpTo, home, index, lineFixed, lineRate, size, joinFixed, joinRate}
-use Rattle.query.specs.Decode.{noRelations, noJoins}
 use Rattle.query.specs.Prices.{linePrice, reads, joinPrice, indexed}
 use Rattle.query.specs.Indexed.{indexedIn}
 use Rattle.query.proofs.Indexed.{indexed-in}
 use Rattle.rules.specs.declared.Origin.the-variants.{Sent, Joined}
+use Rattle.rules.specs.declared.Listed.{Listed}
 use Rattle.rules.specs.declared.Held.{Held}
 use Rattle.rules.specs.Machine.{charge, isBare, sentTo, spared, joinOf}
-use Rattle.rules.specs.Code.{ofRelations, ofSites}
+use Rattle.rules.specs.Code.{ofRelations, ofSites, ofListed}
 
 pub up-to : (limit : ℕ) (l : List ℕ) (i v : ℕ) → UpTo limit l → v ≡ getD l i 0 → v ≤ limit
 up-to limit l i v h e = omega (arith, h i)
@@ -50,9 +48,8 @@ unfolding joinPrice
 join-price-is q k s a t b f r x y z g p e1 e2 e3 e4 e5 e6 e7 = e7 ∙ rw (e6, e1, e2, e3, e4, e5)
 
 -- The reads look at the relations, the price at the sites and the sizes.
-pub joined-is : (S : Sites) (R : Relations) (J : Joins) (Z : List ℕ) (a b : Held) (x y : Bool) (p : ℕ) → x ≡ spared (ofRelations R) a →
-    y ≡ spared (ofRelations R) b → p ≡ joinPrice (ofSites S (noRelations 0) (noJoins 0) Z) (b .site) x (a .set) y (b .set) →
-    _≡_ {A = Held} (record { set = a .set + b .set; site = b .site; origin = Joined; figure = charge (a .figure .0 + b .figure .0 + p) })
-    (joinOf _+_ (ofSites S R J Z) a b)
+pub joined-is : (l : Listed) (sizes : List ℕ) (a b : Held) (x y : Bool) (c p : ℕ) → x ≡ spared (ofRelations (l .relations)) a →
+    y ≡ spared (ofRelations (l .relations)) b → p ≡ joinPrice (ofSites (l .sites) sizes) (b .site) x (a .set) y (b .set) → c ≡ a .figure .0 + b .figure .0 →
+    _≡_ {A = Held} (record { set = a .set + b .set; site = b .site; origin = Joined; figure = charge (c + p) }) (joinOf _+_ (ofListed l sizes) a b)
 unfolding joinPrice joinFixed joinRate size spared indexed home index
-joined-is S R J Z a b x y p e f g = rw (g, e, f)
+joined-is l sizes a b x y c p e f g h = rw (g, e, f, h)

@@ -1,7 +1,6 @@
 -- Running steps that keep the rules: each kind of step goes where its conditions hold, and lists of steps run one after the other.
-use Prim.Native.Nat.{ℕ, suc, _+_, _-_, _^_, _<_}
+use Prim.Native.Nat.{ℕ, suc, _+_, _-_, _^_}
 use mathlib.Core.Path.{_≡_, refl, ap, _∙_}
-use mathlib.Core.Bool.{true, false}
 use mathlib.Core.List.{List, [], _∷_, _++_}
 use lib.ListN.{length}
 use native.Mathlib.Omega.{arith}
@@ -9,11 +8,12 @@ use borrow.Author.Tests.{lt-ltb, eq-eqb, ne-eqb}
 use Rattle.relations.specs.Sets.{bit}
 use Rattle.relations.proofs.Leads.{clash}
 use Rattle.query.specs.declared.Query.{Query}
-use Rattle.query.specs.Query.{relationsOf, sitesOf, mayJoin, isOpen}
+use Rattle.query.specs.Query.{relationsOf, sitesOf}
+use Rattle.rules.specs.declared.Step.{Step}
 use Rattle.rules.specs.declared.Held.{Held}
-use Rattle.rules.specs.Machine.{Machine, Outcome, went, refused, isSent, load, sentTo, sendTop, send, links, joinOf, joinTop, join, step}
-use Rattle.rules.specs.Plans.{Step, after, finish, run}
-use Rattle.rules.proofs.Kept.{bareOf}
+use Rattle.rules.specs.Machine.{bareOf, Machine, Outcome, went, refused, load, sentTo, sendTop, send, joinOf, joinTop, join, step}
+use Rattle.rules.specs.Plans.{after, finish, run}
+use Rattle.rules.proofs.Steps.{MayLoad, MaySend, MayJoin}
 
 -- Steps one after another, with no end condition.
 abbrev pub onward : Outcome → (Machine → Outcome) → Outcome
@@ -24,23 +24,21 @@ unfoldable pub ran : (ℕ → ℕ → ℕ) → Query → List Step → Machine �
 ran combine q [] m = went m
 ran combine q (x ∷ xs) m = onward (step combine q (x .kind) (x .arg) m) (ran combine q xs)
 
-pub load-goes : (combine : ℕ → ℕ → ℕ) (q : Query) (r : ℕ) (m : Machine) → r < relationsOf q → bit (m .loaded) r ≡ 0 →
+pub load-goes : (combine : ℕ → ℕ → ℕ) (q : Query) (r : ℕ) (m : Machine) → MayLoad q (m .loaded) r →
     step combine q 1 r m ≡ went (record { loaded = m .loaded + 2 ^ r; stack = bareOf q r ∷ m .stack })
 unfolding step load
-load-goes combine q r m known fresh = rw (lt-ltb r (relationsOf q) known, eq-eqb (bit (m .loaded) r) 0 fresh)
+load-goes combine q r m may = rw (lt-ltb r (relationsOf q) (may .known), eq-eqb (bit (m .loaded) r) 0 (may .fresh))
 
-pub send-goes : (combine : ℕ → ℕ → ℕ) (q : Query) (t L : ℕ) (h : Held) (hs : List Held) → t < sitesOf q → (h .site ≡ t → ⊥) → isOpen q (h .site) t ≡ true →
-    isSent (h .origin) ≡ false →
+pub send-goes : (combine : ℕ → ℕ → ℕ) (q : Query) (t L : ℕ) (h : Held) (hs : List Held) → MaySend q t h →
     step combine q 2 t (record { loaded = L; stack = h ∷ hs }) ≡ went (record { loaded = L; stack = sentTo q t h ∷ hs })
 unfolding step send sendTop
-send-goes combine q t L h hs known away opened fresh = rw (lt-ltb t (sitesOf q) known, ne-eqb (h .site) t away, opened, fresh)
+send-goes combine q t L h hs may = rw (lt-ltb t (sitesOf q) (may .listed), ne-eqb (h .site) t (may .away), may .opened, may .unsent)
 
-pub join-goes : (combine : ℕ → ℕ → ℕ) (q : Query) (e L : ℕ) (a b : Held) (hs : List Held) → e < relationsOf q - 1 → a .site ≡ b .site → mayJoin q (b .site) ≡ true →
-    links (q .joins) e (a .set) (b .set) ≡ true →
+pub join-goes : (combine : ℕ → ℕ → ℕ) (q : Query) (e L : ℕ) (a b : Held) (hs : List Held) → MayJoin q e a b →
     step combine q 3 e (record { loaded = L; stack = b ∷ (a ∷ hs) }) ≡ went (record { loaded = L; stack = joinOf combine q a b ∷ hs })
 unfolding step join joinTop
-join-goes combine q e L a b hs known there may linked =
-    rw (lt-ltb e (relationsOf q - 1) known, eq-eqb (a .site) (b .site) there, may, linked)
+join-goes combine q e L a b hs may =
+    rw (lt-ltb e (relationsOf q - 1) (may .known), eq-eqb (a .site) (b .site) (may .there), may .may, may .linked)
 
 pub ran-append : (combine : ℕ → ℕ → ℕ) (q : Query) (xs ys : List Step) (m : Machine) → ran combine q (xs ++ ys) m ≡ onward (ran combine q xs m) (ran combine q ys)
 unfolding ran

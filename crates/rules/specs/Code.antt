@@ -4,14 +4,15 @@ use mathlib.Core.Path.{_≡_}
 use mathlib.Core.List.{List, [], _∷_}
 use lib.ListN.{length, getD}
 use lib.Count.{ones}
-use Rattle.relations.specs.declared.Joins.{Joins}
 use Rattle.query.specs.declared.Sites.{Sites}
 use Rattle.query.specs.declared.Relations.{Relations}
 use Rattle.query.specs.declared.Query.{Query}
 use Rattle.query.specs.Query.{UpTo}
+use Rattle.query.specs.Prices.{dearestLine, dearestJoin}
 use Rattle.query.specs.Decode.{noSites, noRelations, noJoins, noLines}
-use Rattle.rules.specs.declared.Origin.{Origin}
-use Rattle.rules.specs.declared.Origin.the-variants.{Bare, Sent, Joined}
+use Rattle.rules.specs.declared.Origin.the-variants.{Bare}
+use Rattle.rules.specs.declared.Step.{Step}
+use Rattle.rules.specs.declared.Listed.{Listed}
 use Rattle.rules.specs.declared.Held.{Held}
 use Rattle.rules.specs.declared.Stack.{Stack}
 use Rattle.rules.specs.declared.State.{State}
@@ -54,28 +55,30 @@ abbrev pub verdictOf : Checked → Verdict
 verdictOf (Accepted c) = accepted (c .0)
 verdictOf (Rejected k i) = rejected k i
 
--- What a held result may still be charged for until a join has taken it: a send and its share of the join, or its share alone where it was sent.
-abbrev pub slack : Origin → ℕ
-slack Bare = 5_000_003_000_000
-slack Sent = 4_000_002_000_000
-slack Joined = 5_000_003_000_000
+-- Step i of a plan's bytes.
+abbrev pub stepAt : List ℕ → ℕ → Step
+stepAt plan i = record { kind = getD plan (1 + 2 * i) 0; arg = getD plan (2 + 2 * i) 0 }
 
--- The sums over the held results of their sets' numbers, and of their figures with what they may still be charged for.
+-- The sums over the held results of their sets' numbers and of their figures.
 abbrev pub sets : List Held → ℕ
 sets [] = 0
 sets (h ∷ hs) = h .set + sets hs
 
 abbrev pub figures : List Held → ℕ
 figures [] = 0
-figures (h ∷ hs) = h .figure .0 + slack (h .origin) + figures hs
+figures (h ∷ hs) = h .figure .0 + figures hs
 
--- What a run over n relations keeps: it holds at most one result a relation loaded, and no figure is above what its set's number allows,
--- so nine entries are enough and no sum of figures overflows.
-pub record Room (n : ℕ) (m : Machine) : Type 0 where
+-- What a run over n relations keeps through its first i steps, which are loads, joins and sends. Each load brings a relation and a result, and
+-- each join takes a result away: so nine entries are enough. A load is free, a join charges at most the dearest join and a send the dearest
+-- line, and no combination is more than the sum: so no sum of figures overflows, however the sends are spread.
+pub record Room (n i : ℕ) (m : Machine) : Type 0 where
   pub in-all : m .loaded < 2 ^ n
-  pub few : length (m .stack) ≤ ones (m .loaded)
   pub parts : sets (m .stack) ≤ m .loaded
-  pub small : figures (m .stack) ≤ 5_000_003_000_000 * sets (m .stack)
+  pub joins : ℕ
+  pub sends : ℕ
+  pub held : length (m .stack) + joins ≡ ones (m .loaded)
+  pub steps : ones (m .loaded) + joins + sends ≤ i
+  pub small : figures (m .stack) ≤ dearestJoin * joins + dearestLine * sends
 
 -- Queries of which only some parts are given, as the functions that are lent these parts alone see them. What is left out they do not look at.
 abbrev pub ofRelations : Relations → Query
@@ -92,12 +95,26 @@ ofLines s sizes flag fixed rate =
       target = 0;
     }
 
-abbrev pub ofSites : Sites → Relations → Joins → List ℕ → Query
-ofSites s r j sizes = record { sites = s; relations = r; joins = j; sizes = sizes; lines = noLines; target = 0 }
+abbrev pub ofSites : Sites → List ℕ → Query
+ofSites s sizes = record { sites = s; relations = noRelations 0; joins = noJoins 0; sizes = sizes; lines = noLines; target = 0 }
 
-abbrev pub ofParts : Sites → Relations → Joins → List ℕ → List ℕ → List ℕ → List ℕ → Query
-ofParts s r j sizes flag fixed rate =
-    record { sites = s; relations = r; joins = j; sizes = sizes; lines = record { flag = flag; fixed = fixed; rate = rate }; target = 0 }
+abbrev pub ofListed : Listed → List ℕ → Query
+ofListed l sizes = record { sites = l .sites; relations = l .relations; joins = l .joins; sizes = sizes; lines = noLines; target = 0 }
+
+abbrev pub listedOf : Query → Listed
+listedOf q = record { sites = q .sites; relations = q .relations; joins = q .joins }
+
+-- With the query site all parts are given.
+abbrev pub ofParts : Listed → List ℕ → List ℕ → List ℕ → List ℕ → ℕ → Query
+ofParts l sizes flag fixed rate target =
+    record {
+      sites = l .sites;
+      relations = l .relations;
+      joins = l .joins;
+      sizes = sizes;
+      lines = record { flag = flag; fixed = fixed; rate = rate };
+      target = target;
+    }
 
 abbrev pub ofEnd : ℕ → ℕ → Query
 ofEnd n t = record { sites = noSites 0; relations = noRelations n; joins = noJoins 0; sizes = []; lines = noLines; target = t }
@@ -115,10 +132,10 @@ pub record Lined (flag fixed rate : List ℕ) : Type 0 where
   pub rates : length rate ≡ 64
 
 -- What a step asks of the parts of a query: document 01's limits.
-pub record Fair (sites : Sites) (relations : Relations) (joins : Joins) (sizes flag fixed rate : List ℕ) : Type 0 where
-  pub sites-most : sites .count ≤ 8
-  pub relations-most : relations .count ≤ 9
-  pub joins-fewer : joins .count + 1 ≡ relations .count
+pub record Fair (l : Listed) (sizes flag fixed rate : List ℕ) : Type 0 where
+  pub sites-most : l .sites .count ≤ 8
+  pub relations-most : l .relations .count ≤ 9
+  pub joins-fewer : l .joins .count + 1 ≡ l .relations .count
   pub by-line : Amounts sizes fixed rate
-  pub by-site : Amounts sizes (sites .fixed) (sites .rate)
+  pub by-site : Amounts sizes (l .sites .fixed) (l .sites .rate)
   pub lined : Lined flag fixed rate

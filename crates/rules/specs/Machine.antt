@@ -47,13 +47,15 @@ isSent Bare = false
 isSent Sent = true
 isSent Joined = false
 
+-- Relation r at its home, as a load puts it on top.
+abbrev pub bareOf : Query → ℕ → Held
+bareOf q r = record { set = 2 ^ r; site = home q r; origin = Bare; figure = charge 0 }
+
 -- 1, load r: puts r, at its home, on top. Each relation at most once.
 unfoldable pub load : Query → ℕ → Machine → Outcome
 load q r m =
     guard (ltb r (relationsOf q)) 8
-    (guard (eqb (bit (m .loaded) r) 0) 9
-    (went
-    (record { loaded = m .loaded + 2 ^ r; stack = record { set = 2 ^ r; site = home q r; origin = Bare; figure = charge 0 } ∷ m .stack })))
+    (guard (eqb (bit (m .loaded) r) 0) 9 (went (record { loaded = m .loaded + 2 ^ r; stack = bareOf q r ∷ m .stack })))
 
 -- The top as it arrives at t.
 abbrev pub sentTo : Query → ℕ → Held → Held

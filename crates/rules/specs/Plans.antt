@@ -10,6 +10,7 @@ use Rattle.query.specs.declared.Query.{Query}
 use Rattle.query.specs.Choice.{pick}
 use Rattle.query.specs.Query.{relationsOf}
 use Rattle.query.specs.Prices.{linePrice, joinPrice}
+use Rattle.rules.specs.declared.Step.{Step}
 use Rattle.rules.specs.declared.Held.{Held}
 use Rattle.rules.specs.Machine.{Machine, start, Outcome, went, refused, spared, step}
 
@@ -19,11 +20,6 @@ mostSteps = 34
 
 abbrev pub longestPlan : ℕ
 longestPlan = 1 + 2 * mostSteps
-
--- A step: its kind and its argument.
-pub record Step : Type 0 where
-  pub kind : ℕ
-  pub arg : ℕ
 
 abbrev pub stepsOf : List ℕ → List Step
 stepsOf [] = []

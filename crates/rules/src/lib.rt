@@ -1,12 +1,35 @@
 // The plan rules: the stack machine of document 01's "Allowed plans", and the checker that runs a plan on it.
 use query::Charge;
+use query::Relations;
+use query::Sites;
+use relations::Joins;
 
+mod combining;
 mod plans;
 mod prices;
 mod stacking;
 mod stepping;
 
+pub use combining::combine;
 pub use plans::check;
+
+// How many steps a plan may have, and how many bytes it then has at most: its count, and two a step.
+pub const MOST_STEPS: usize = 34;
+
+pub const LONGEST_PLAN: usize = 1 + 2 * MOST_STEPS;
+
+// A step: its kind and its argument.
+pub struct Step {
+    pub kind: usize,
+    pub arg: usize,
+}
+
+// What a step can name: the listed sites, relations and joins.
+pub struct Listed {
+    pub sites: Sites,
+    pub relations: Relations,
+    pub joins: Joins,
+}
 
 // What a held result is: a bare relation, a sent result or a joined result.
 pub enum Origin {

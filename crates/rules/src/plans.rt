@@ -1,8 +1,11 @@
 // The checker: a plan is accepted at its own cost exactly when it keeps the rules; else it is rejected with a number and a place.
 use crate::Checked;
+use crate::Listed;
+use crate::MOST_STEPS;
 use crate::Outcome;
 use crate::Stack;
 use crate::State;
+use crate::Step;
 use crate::stacking::empty;
 use crate::stacking::pop;
 use crate::stepping::step;
@@ -13,8 +16,8 @@ ghost use mathlib.Core.Path.{_≡_};
 ghost use lib.ListN.{length, getD, drop};
 ghost use Rattle.query.specs.Query.{Valid};
 ghost use Rattle.rules.specs.Machine.{start};
-ghost use Rattle.rules.specs.Plans.{rejected, stepsOf, finish, run, checked};
-ghost use Rattle.rules.specs.Code.{stackOf, machineOf, numberOf, verdictOf, ofEnd};
+ghost use Rattle.rules.specs.Plans.{mostSteps, rejected, stepsOf, finish, run, checked};
+ghost use Rattle.rules.specs.Code.{stackOf, machineOf, numberOf, verdictOf, stepAt, Lined, ofParts, ofEnd};
 
 // A rejection with its number, at a step or at the count.
 fn rejected(number: u64, place: usize) -> Checked
@@ -74,31 +77,37 @@ fn byte(plan: &[u8], place: usize) -> usize
     plan[place] as usize
 }
 
-// The steps of a plan in order, and the end condition.
-fn run(q: Query, plan: &[u8], count: usize) -> Checked
-    requires { ⌜ Valid q × (count ≤ 34) × (length (now plan) ≡ 1 + 2 * count) ⌝ }
-    ensures { λ r. ⌜ verdictOf r ≡ run _+_ q 0 (stepsOf (drop 1 (now (plan .entry)))) start ⌝ }
+// Step i of a plan.
+fn step_at(plan: &[u8], i: usize) -> Step
+    requires { ⌜ 2 + 2 * i < length (now plan) ⌝ }
+    ensures { λ r. ⌜ r ≡ stepAt (now (plan .entry)) i ⌝ }
 {
-    let sites = q.sites;
-    let relations = q.relations;
-    let joins = q.joins;
+    Step {
+        kind: byte(plan, 1 + 2 * i),
+        arg: byte(plan, 2 + 2 * i),
+    }
+}
+
+// The steps of a plan in order, and the end condition.
+fn run<'a>(
+    listed: Listed,
+    sizes: &'a [u64],
+    flag: &'a [u64],
+    fixed: &'a [u64],
+    rate: &'a [u64],
+    target: usize,
+    plan: &[u8],
+    count: usize,
+) -> Checked
+    requires { ⌜ Valid (ofParts listed (now sizes) (now flag) (now fixed) (now rate) target) × Lined (now flag) (now fixed) (now rate) ⌝ }
+    requires { ⌜ (count ≤ mostSteps) × (length (now plan) ≡ 1 + 2 * count) ⌝ }
+    ensures { λ r. ⌜ verdictOf r ≡ run _+_ (ofParts listed (now (sizes .entry)) (now (flag .entry)) (now (fixed .entry)) (now (rate .entry)) target) 0 (stepsOf (drop 1 (now (plan .entry)))) start ⌝ }
+{
     let mut state = start();
     let mut i = 0;
     while i < count {
-        let kind = byte(plan, 1 + 2 * i);
-        let arg = byte(plan, 2 + 2 * i);
-        let stepped = step(
-            sites,
-            relations,
-            joins,
-            &q.sizes,
-            &q.lines.flag,
-            &q.lines.fixed,
-            &q.lines.rate,
-            state,
-            kind,
-            arg,
-        );
+        let next = step_at(plan, i);
+        let stepped = step(listed, sizes, flag, fixed, rate, state, next);
         let outcome = stepped.outcome;
         let Outcome::Went = outcome else {
             return rejected(number(outcome), i);
@@ -106,11 +115,10 @@ fn run(q: Query, plan: &[u8], count: usize) -> Checked
         state = stepped.state;
         i += 1;
     }
-    let stack = state.stack;
-    finish(relations.count, q.target, stack, i)
+    finish(listed.relations.count, target, state.stack, i)
 }
 
-// A plan's verdict. Refusal 7: the count is outside 1 to 34, or the length isn't 1 + 2 × count. So nothing is read past the plan's end.
+// A plan's verdict. Refusal 7: the count is outside its limits, or the length isn't 1 + 2 × count. So nothing is read past the plan's end.
 pub fn check(q: Query, plan: &[u8]) -> Checked
     requires { ⌜ Valid q ⌝ }
     ensures { λ r. ⌜ verdictOf r ≡ checked _+_ q (now (plan .entry)) ⌝ }
@@ -122,11 +130,25 @@ pub fn check(q: Query, plan: &[u8]) -> Checked
     if count < 1 {
         return rejected(7, 0);
     }
-    if 34 < count {
+    if MOST_STEPS < count {
         return rejected(7, 0);
     }
     if plan.len() != 1 + 2 * count {
         return rejected(7, 0);
     }
-    run(q, plan, count)
+    let listed = Listed {
+        sites: q.sites,
+        relations: q.relations,
+        joins: q.joins,
+    };
+    run(
+        listed,
+        &q.sizes,
+        &q.lines.flag,
+        &q.lines.fixed,
+        &q.lines.rate,
+        q.target,
+        plan,
+        count,
+    )
 }

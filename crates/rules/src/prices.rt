@@ -1,6 +1,8 @@
 // What a send and a join make of the held results, with their prices.
 use crate::Held;
+use crate::Listed;
 use crate::Origin;
+use crate::combining::combine;
 use query::Bytes;
 use query::Charge;
 use query::Relations;
@@ -11,10 +13,9 @@ ghost use mathlib.Core.Path.{_≡_};
 ghost use mathlib.Core.List.{[]};
 ghost use lib.ListN.{length, getD};
 ghost use Rattle.query.specs.Query.{UpTo};
-ghost use Rattle.query.specs.Decode.{noRelations, noJoins};
-ghost use Rattle.query.specs.Prices.{joinPrice};
+ghost use Rattle.query.specs.Prices.{joinPrice, dearestJoin};
 ghost use Rattle.rules.specs.Machine.{isBare, spared, sentTo, joinOf};
-ghost use Rattle.rules.specs.Code.{ofRelations, ofLines, ofSites, Amounts};
+ghost use Rattle.rules.specs.Code.{ofRelations, ofLines, ofSites, ofListed, Amounts};
 
 // The number at a place of a list, and 0 past its end.
 pub(crate) fn at(list: &[u64], i: usize) -> u64
@@ -48,7 +49,7 @@ pub(crate) fn sent<'a>(
     t: usize,
 ) -> Held
     requires { ⌜ Amounts (now sizes) (now fixed) (now rate) ⌝ }
-    requires { ⌜ (length (now fixed) ≡ 64) × (length (now rate) ≡ 64) × (t < 8) × (top .figure .0 ≤ 4000000000000000) ⌝ }
+    requires { ⌜ (length (now fixed) ≡ 64) × (length (now rate) ≡ 64) × (t < 8) × (top .figure .0 < 2 ^ 62) ⌝ }
     ensures { λ r. ⌜ r ≡ sentTo (ofLines 0 (now (sizes .entry)) [] (now (fixed .entry)) (now (rate .entry))) t top ⌝ }
 {
     let from = top.site;
@@ -95,7 +96,7 @@ fn join_price(
     b: usize,
 ) -> Charge
     requires { ⌜ Amounts (now sizes) (sites .fixed) (sites .rate) × (a + b < 512) ⌝ }
-    ensures { λ r. ⌜ (r .0 ≡ joinPrice (ofSites sites (noRelations 0) (noJoins 0) (now (sizes .entry))) site one a other b) × (r .0 ≤ 3000001000000) ⌝ }
+    ensures { λ r. ⌜ (r .0 ≡ joinPrice (ofSites sites (now (sizes .entry))) site one a other b) × (r .0 ≤ dearestJoin) ⌝ }
 {
     let read = price::reads(one, size_at(sizes, a), other, size_at(sizes, b));
     let result = size_at(sizes, a + b);
@@ -105,19 +106,20 @@ fn join_price(
 }
 
 // What joining a and b, at the site of both, makes.
-pub(crate) fn joined(sites: Sites, relations: Relations, sizes: &[u64], a: Held, b: Held) -> Held
-    requires { ⌜ Amounts (now sizes) (sites .fixed) (sites .rate) ⌝ }
-    requires { ⌜ (relations .count ≤ 9) × (a .set + b .set < 2 ^ relations .count) × (a .figure .0 + b .figure .0 ≤ 4000000000000000) ⌝ }
-    ensures { λ r. ⌜ r ≡ joinOf _+_ (ofSites sites relations (noJoins 0) (now (sizes .entry))) a b ⌝ }
+pub(crate) fn joined(listed: Listed, sizes: &[u64], a: Held, b: Held) -> Held
+    requires { ⌜ Amounts (now sizes) (listed .sites .fixed) (listed .sites .rate) ⌝ }
+    requires { ⌜ (listed .relations .count ≤ 9) × (a .set + b .set < 2 ^ listed .relations .count) × (a .figure .0 + b .figure .0 < 2 ^ 62) ⌝ }
+    ensures { λ r. ⌜ r ≡ joinOf _+_ (ofListed listed (now (sizes .entry))) a b ⌝ }
 {
-    let one = is_spared(relations, a);
-    let other = is_spared(relations, b);
+    let one = is_spared(listed.relations, a);
+    let other = is_spared(listed.relations, b);
     let site = b.site;
-    let price = join_price(sites, sizes, site, one, a.set, other, b.set);
+    let price = join_price(listed.sites, sizes, site, one, a.set, other, b.set);
+    let both = combine(a.figure, b.figure);
     Held {
         set: a.set + b.set,
         site,
         origin: Origin::Joined,
-        figure: Charge(a.figure.0 + b.figure.0 + price.0),
+        figure: Charge(both.0 + price.0),
     }
 }

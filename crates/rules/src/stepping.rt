@@ -1,9 +1,11 @@
 // One step of a plan: load, send and join, with refusals 8 to 11.
 use crate::Held;
+use crate::Listed;
 use crate::Origin;
 use crate::Outcome;
 use crate::Stack;
 use crate::State;
+use crate::Step;
 use crate::Stepped;
 use crate::prices::at;
 use crate::prices::joined;
@@ -14,8 +16,6 @@ use crate::stacking::pop_two;
 use crate::stacking::push;
 use query::Charge;
 use query::Relations;
-use query::Sites;
-use relations::Joins;
 use relations::bit;
 use relations::single;
 ghost use Prim.Native.Nat.{_+_, _*_, _≤_, _<_};
@@ -24,7 +24,8 @@ ghost use mathlib.Core.Bool.{_&&_, not};
 ghost use lib.Dec.{eqb};
 ghost use lib.ListN.{length, getD};
 ghost use Rattle.rules.specs.Machine.{load, send, join, step, links, isSent, went, refused};
-ghost use Rattle.rules.specs.Code.{machineOf, stackOf, outcomeOf, Room, Amounts, Lined, Fair, ofRelations, ofLines, ofSites, ofParts};
+ghost use Rattle.rules.specs.Plans.{mostSteps};
+ghost use Rattle.rules.specs.Code.{machineOf, stackOf, outcomeOf, Room, Amounts, Lined, Fair, ofRelations, ofLines, ofListed, ofParts};
 
 // A step that goes, to the state after it.
 fn went(loaded: usize, stack: Stack) -> Stepped
@@ -48,7 +49,7 @@ fn refused(state: State, number: u64) -> Stepped
 
 // 1, load r: puts r, at its home, on top. Each relation at most once.
 fn load(relations: Relations, state: State, r: usize) -> Stepped
-    requires { ⌜ (relations .count ≤ 9) × Room (relations .count) (machineOf state) ⌝ }
+    requires { ⌜ (relations .count ≤ 9) × Room (relations .count) mostSteps (machineOf state) ⌝ }
     ensures { λ out. ⌜ outcomeOf out ≡ load (ofRelations relations) r (machineOf state) ⌝ }
 {
     if relations.count <= r {
@@ -101,7 +102,7 @@ fn send<'a>(
     state: State,
     t: usize,
 ) -> Stepped
-    requires { ⌜ (count ≤ 8) × Amounts (now sizes) (now fixed) (now rate) × Lined (now flag) (now fixed) (now rate) × Room 9 (machineOf state) ⌝ }
+    requires { ⌜ (count ≤ 8) × Amounts (now sizes) (now fixed) (now rate) × Lined (now flag) (now fixed) (now rate) × Room 9 mostSteps (machineOf state) ⌝ }
     ensures { λ out. ⌜ outcomeOf out ≡ send (ofLines count (now (sizes .entry)) (now (flag .entry)) (now (fixed .entry)) (now (rate .entry))) t (machineOf state) ⌝ }
 {
     if count <= t {
@@ -122,31 +123,26 @@ fn send<'a>(
 }
 
 // a and b may be joined by e: they stand at one site that may join, with one end of e in each.
-fn may_join(sites: Sites, joins: Joins, a: Held, b: Held, e: usize) -> bool
+fn may_join(listed: Listed, a: Held, b: Held, e: usize) -> bool
     requires { ⌜ e < 8 ⌝ }
-    ensures { λ r. ⌜ r ≡ ((eqb (a .site) (b .site) && eqb (getD (sites .may) (b .site) 0) 1) && links joins e (a .set) (b .set)) ⌝ }
+    ensures { λ r. ⌜ r ≡ ((eqb (a .site) (b .site) && eqb (getD (listed .sites .may) (b .site) 0) 1) && links (listed .joins) e (a .set) (b .set)) ⌝ }
 {
+    let joins = listed.joins;
     let f = joins.first[e];
     let s = joins.second[e];
     let linked = (bit(a.set, f) + bit(b.set, s) == 2) | (bit(a.set, s) + bit(b.set, f) == 2);
+    let sites = listed.sites;
     let site = b.site;
     (a.site == site) & (at(&sites.may, site) == 1) & linked
 }
 
 // 3, join e: the top two become one.
-fn join(
-    sites: Sites,
-    relations: Relations,
-    joins: Joins,
-    sizes: &[u64],
-    state: State,
-    e: usize,
-) -> Stepped
-    requires { ⌜ (relations .count ≤ 9) × (joins .count + 1 ≡ relations .count) ⌝ }
-    requires { ⌜ Amounts (now sizes) (sites .fixed) (sites .rate) × Room (relations .count) (machineOf state) ⌝ }
-    ensures { λ out. ⌜ outcomeOf out ≡ join _+_ (ofSites sites relations joins (now (sizes .entry))) e (machineOf state) ⌝ }
+fn join(listed: Listed, sizes: &[u64], state: State, e: usize) -> Stepped
+    requires { ⌜ (listed .relations .count ≤ 9) × (listed .joins .count + 1 ≡ listed .relations .count) ⌝ }
+    requires { ⌜ Amounts (now sizes) (listed .sites .fixed) (listed .sites .rate) × Room (listed .relations .count) mostSteps (machineOf state) ⌝ }
+    ensures { λ out. ⌜ outcomeOf out ≡ join _+_ (ofListed listed (now (sizes .entry))) e (machineOf state) ⌝ }
 {
-    if joins.count <= e {
+    if listed.joins.count <= e {
         return refused(state, 8);
     }
     let stack = state.stack;
@@ -156,12 +152,9 @@ fn join(
     let popped = pop_two(stack);
     let a = popped.next;
     let b = popped.top;
-    if may_join(sites, joins, a, b, e) {
+    if may_join(listed, a, b, e) {
         let below = popped.rest;
-        went(
-            state.loaded,
-            push(below, joined(sites, relations, sizes, a, b)),
-        )
+        went(state.loaded, push(below, joined(listed, sizes, a, b)))
     } else {
         refused(state, 11)
     }
@@ -169,28 +162,33 @@ fn join(
 
 // A step by its kind and argument. Refusal 8: unknown kind, or argument not in the query.
 pub(crate) fn step<'a>(
-    sites: Sites,
-    relations: Relations,
-    joins: Joins,
+    listed: Listed,
     sizes: &'a [u64],
     flag: &'a [u64],
     fixed: &'a [u64],
     rate: &'a [u64],
     state: State,
-    kind: usize,
-    arg: usize,
+    next: Step,
 ) -> Stepped
-    requires { ⌜ Fair sites relations joins (now sizes) (now flag) (now fixed) (now rate) × Room (relations .count) (machineOf state) ⌝ }
-    ensures { λ out. ⌜ outcomeOf out ≡ step _+_ (ofParts sites relations joins (now (sizes .entry)) (now (flag .entry)) (now (fixed .entry)) (now (rate .entry))) kind arg (machineOf state) ⌝ }
+    requires { ⌜ Fair listed (now sizes) (now flag) (now fixed) (now rate) × Room (listed .relations .count) mostSteps (machineOf state) ⌝ }
+    ensures { λ out. ⌜ outcomeOf out ≡ step _+_ (ofParts listed (now (sizes .entry)) (now (flag .entry)) (now (fixed .entry)) (now (rate .entry)) 0) (next .kind) (next .arg) (machineOf state) ⌝ }
 {
-    if kind == 1 {
-        return load(relations, state, arg);
+    if next.kind == 1 {
+        return load(listed.relations, state, next.arg);
     }
-    if kind == 2 {
-        return send(sites.count, sizes, flag, fixed, rate, state, arg);
+    if next.kind == 2 {
+        return send(
+            listed.sites.count,
+            sizes,
+            flag,
+            fixed,
+            rate,
+            state,
+            next.arg,
+        );
     }
-    if kind == 3 {
-        return join(sites, relations, joins, sizes, state, arg);
+    if next.kind == 3 {
+        return join(listed, sizes, state, next.arg);
     }
     refused(state, 8)
 }

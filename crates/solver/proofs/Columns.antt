@@ -27,6 +27,7 @@ use Rattle.tables.specs.Least.{Best, best, least}
 use Rattle.tables.specs.Tables.{firstPart, otherPart, only, byJoin, joinedBy, bySite, delivered, joined}
 use Rattle.tables.specs.Plan.{bestSite}
 use Rattle.solver.specs.Code.{place, noneMark, mark, reading, cellOf, leastOf, placeOf, sparedAt, Lent, lent, joinIn, partBy, baseAt, trialOf, Triable, joinTrial, Joinable, HomeLow, joinedBelow, bareAt, startAt, siteTrial, deliveredAt, siteAt, withReading, heldAt, Marked, Filled, MasksOf, CarriagesOf}
+use Rattle.rules.proofs.Combinations.{plus-combines}
 use Rattle.tables.proofs.Most.{delivered-most, joined-most}
 use Rattle.solver.proofs.Marks.{UpToOr, Shows, Kept, mark-most, kept-all, shows-joined, shows-sent, shows-more, up-to-is, up-to-read, read-figure}
 use Rattle.solver.proofs.Carriages.{carriages-are}
@@ -46,10 +47,10 @@ home-low q v S low one =
     omega (arith, v .homes (only q S) (lowest-below (relationsOf q) S (one-some S one) low), v .sites-most)
 
 pub delivered-up-to : (q : Query) → Valid q → (S t : ℕ) → Subquery (q .joins) (relationsOf q) S → UpToOr 41_000_025_000_000 (delivered _+_ q S t)
-delivered-up-to q v S t s = up-to-is 41_000_025_000_000 (delivered _+_ q S t) (λ c e. delivered-most q v S t c s e)
+delivered-up-to q v S t s = up-to-is 41_000_025_000_000 (delivered _+_ q S t) (λ c e. delivered-most _+_ plus-combines q v S t c s e)
 
 pub joined-up-to : (q : Query) → Valid q → (S k : ℕ) → Subquery (q .joins) (relationsOf q) S → UpToOr 41_000_025_000_000 (joined _+_ q S k)
-joined-up-to q v S k s = up-to-is 41_000_025_000_000 (joined _+_ q S k) (λ c e. joined-most q v S k c s e)
+joined-up-to q v S k s = up-to-is 41_000_025_000_000 (joined _+_ q S k) (λ c e. joined-most _+_ plus-combines q v S k c s e)
 
 -- No cell is above the figure of none.
 pub cell-most : (q : Query) → Valid q → (S t : ℕ) → Subquery (q .joins) (relationsOf q) S → cellOf q S t ≤ noneMark

@@ -13,7 +13,7 @@ use Rattle.tables.specs.Tables.{cheapest}
 use Rattle.tables.specs.Plan.{writtenDelivered, writtenSteps, stepBytes, written}
 use Rattle.solver.specs.Code.{MasksOf, CarriagesOf, Filled, Wrote, listsOf, ToDeliver}
 use Rattle.tables.proofs.Upper.{written-law}
-use Rattle.rules.proofs.Combine.{plus-combines}
+use Rattle.rules.proofs.Combinations.{plus-combines}
 use Rattle.solver.proofs.SetsFilled.{all-here}
 use Rattle.tables.proofs.StepBytes.{step-bytes-long}
 use Rattle.solver.proofs.Stores.{plan-stored}

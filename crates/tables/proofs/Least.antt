@@ -1,7 +1,7 @@
 -- Laws of the least of some costs: no candidate is below it, where it is a number it is the candidate at the place named,
 -- and equal candidates have the same least at the same place.
 use Prim.Native.Nat.{ℕ, zero, suc, _<_}
-use mathlib.Core.Path.{_≡_, refl, sym, subst}
+use mathlib.Core.Path.{_≡_, refl}
 use mathlib.Core.Bool.{Bool, true, false}
 use mathlib.Core.Logic.{_⊎_, inl, inr}
 use lib.Dec.{ltb}
@@ -17,23 +17,18 @@ abbrev this : ℕ → ℕ → Best
 this c i = record { cost = some c; at = i }
 
 -- The better of two is at most either.
-better-old : (new : Cost) (i : ℕ) (b : Best) (old : Cost) (x : ℕ) → b .cost ≡ old → AtMost old x → AtMost (better new i b old .cost) x
-better-old none i b old x e h = subst (λ (c : Cost). AtMost c x) (sym e) h
-better-old (some c) i b none x e h = absurd h
-better-old (some c) i b (some d) x e h = go (ltb c d) refl
+better-most : (new : Cost) (i : ℕ) (b : Best) (old : Cost) (x : ℕ) → b .cost ≡ old → AtMost old x ⊎ AtMost new x → AtMost (better new i b old .cost) x
+better-most none i b old x e (inl h) = rw e h
+better-most none i b old x e (inr h) = absurd h
+better-most (some c) i b none x e (inl h) = absurd h
+better-most (some c) i b none x e (inr h) = h
+better-most (some c) i b (some d) x e h = go (ltb c d) refl h
   where
-    go : (t : Bool) → ltb c d ≡ t → AtMost (pick {A = Best} t (this c i) b .cost) x
-    go true l = omega (arith, ltb-true c d l)
-    go false l = subst (λ (c : Cost). AtMost c x) (sym e) h
-
-better-new : (new : Cost) (i : ℕ) (b : Best) (old : Cost) (x : ℕ) → b .cost ≡ old → AtMost new x → AtMost (better new i b old .cost) x
-better-new none i b old x e h = absurd h
-better-new (some c) i b none x e h = h
-better-new (some c) i b (some d) x e h = go (ltb c d) refl
-  where
-    go : (t : Bool) → ltb c d ≡ t → AtMost (pick {A = Best} t (this c i) b .cost) x
-    go true l = h
-    go false l = subst (λ (c : Cost). AtMost c x) (sym e) (omega (arith, ltb-false c d l))
+    go : (t : Bool) → ltb c d ≡ t → AtMost (some d) x ⊎ AtMost (some c) x → AtMost (pick {A = Best} t (this c i) b .cost) x
+    go true l (inl h) = omega (arith, ltb-true c d l)
+    go true l (inr h) = h
+    go false l (inl h) = rw e h
+    go false l (inr h) = rw e (omega (arith, ltb-false c d l))
 
 -- Each candidate bounds the least.
 pub least-most : (f : ℕ → Cost) (m i x : ℕ) → i < m → AtMost (f i) x → AtMost (least f m) x
@@ -42,8 +37,8 @@ least-most f zero i x l h = absurd (omega arith)
 least-most f (suc m) i x l h = go (eq-or-lt-of-le (le-of-suc-le-suc l)) (least-most f m i x)
   where
     go : (i ≡ m) ⊎ (i < m) → (i < m → AtMost (f i) x → AtMost (least f m) x) → AtMost (better (f m) m (best f m) (least f m) .cost) x
-    go (inl e) before = better-new (f m) m (best f m) (least f m) x refl (subst (λ (j : ℕ). AtMost (f j) x) e h)
-    go (inr e) before = better-old (f m) m (best f m) (least f m) x refl (before e h)
+    go (inl e) before = better-most (f m) m (best f m) (least f m) x refl (inr (rw e at h))
+    go (inr e) before = better-most (f m) m (best f m) (least f m) x refl (inl (before e h))
 
 -- A least that is a number is the candidate at its place.
 abbrev Found : (ℕ → Cost) → ℕ → Best → ℕ → Type 0

@@ -4,11 +4,10 @@ use Prim.Native.Nat.{ℕ, _+_, _-_, _≤_, _<_, zero-le}
 use mathlib.Core.Path.{_≡_, ap, subst, _∙_}
 use mathlib.Core.Bool.{Bool, true, false}
 use mathlib.Core.Logic.{_⊎_, inl, inr}
-use mathlib.Core.List.{List}
 use lib.Count.{ones}
 use native.Mathlib.Nat.{le-refl, add-comm}
 use native.Mathlib.Omega.{arith}
-use Rattle.relations.specs.Sets.{bit, Apart, all}
+use Rattle.relations.specs.Sets.{bit, Apart}
 use Rattle.relations.specs.Growth.{first, second}
 use Rattle.relations.specs.Trees.{Subquery}
 use Rattle.relations.specs.Theorems.{Union}
@@ -25,11 +24,12 @@ use Rattle.rules.specs.declared.Origin.{Origin}
 use Rattle.rules.specs.declared.Origin.the-variants.{Bare, Sent, Joined}
 use Rattle.rules.specs.declared.Held.{Held}
 use Rattle.rules.specs.Combine.{Combines}
-use Rattle.rules.specs.Machine.{isBare, isSent, sentTo, links, spared, joinOf}
-use Rattle.rules.specs.Plans.{AllowedAt}
+use Rattle.rules.specs.Machine.{bareOf, isBare, isSent, sentTo, links, spared, joinOf}
 use Rattle.rules.proofs.Links.{links-means}
-use Rattle.rules.proofs.Kept.{bareOf, Keeps, Ends, allowed-ends}
-use Rattle.tables.specs.Tables.{only, byJoin, bySite, delivered, joined, cheapest}
+use Rattle.rules.proofs.Steps.{MaySend, MayJoin}
+use Rattle.rules.proofs.Invariants.{Ends}
+use Rattle.rules.proofs.Kept.{Keeps, Stacks, allowed-kept}
+use Rattle.tables.specs.Tables.{only, byJoin, bySite, delivered, joined}
 use Rattle.tables.specs.Theorems.{CheapestLaw}
 use Rattle.tables.proofs.Costs.{at-most-is, at-most-more, both-most, plus-most}
 use Rattle.tables.proofs.Tables.{ones-some, delivered-one, delivered-within, joined-within}
@@ -56,6 +56,9 @@ module _ (combine : ℕ → ℕ → ℕ) (laws : Combines combine) (q : Query) (
       delivered-within combine q v S k k x s more l
       (at-most-more (bySite (joined combine q S) q S k k) (x + 0) x (omega arith)
       (plus-most (joined combine q S k) (carriage q S k k) x 0 b (at-most-is (carriage q S k k) 0 0 (carriage-stays q S k) zero-le)))
+
+  at-site : (h : Held) → Fine h → AtMost (delivered combine q (h .set) (h .site)) (h .figure .0)
+  at-site h f = reaches (h .origin) (h .set) (h .site) (h .figure .0) (f .subquery) (f .listed) (f .bounded)
 
   -- A send adds the price of its line.
   sends : (o : Origin) (S k t x : ℕ) → Subquery (q .joins) (relationsOf q) S → k < sitesOf q → (k ≡ t → ⊥) → isOpen q k t ≡ true → isSent o ≡ false →
@@ -118,41 +121,28 @@ module _ (combine : ℕ → ℕ → ℕ) (laws : Combines combine) (q : Query) (
             bounded = (ones-pow r, ap (home q) (lowest-pow (relationsOf q) r l));
           }
 
-      sent : (t : ℕ) (h : Held) → Fine h → t < sitesOf q → (h .site ≡ t → ⊥) → isOpen q (h .site) t ≡ true → isSent (h .origin) ≡ false → Fine (sentTo q t h)
-      sent t h f l away opened fresh =
+      sent : (t : ℕ) (h : Held) → MaySend q t h → Fine h → Fine (sentTo q t h)
+      sent t h may f =
           record {
             subquery = f .subquery;
-            listed = l;
-            bounded = sends (h .origin) (h .set) (h .site) t (h .figure .0) (f .subquery) (f .listed) away opened fresh (f .bounded);
+            listed = may .listed;
+            bounded = sends (h .origin) (h .set) (h .site) t (h .figure .0) (f .subquery) (f .listed) (may .away) (may .opened) (may .unsent) (f .bounded);
           }
 
-      at-site : (h : Held) → Fine h → AtMost (delivered combine q (h .set) (h .site)) (h .figure .0)
-      at-site h f = reaches (h .origin) (h .set) (h .site) (h .figure .0) (f .subquery) (f .listed) (f .bounded)
-
-      made : (e : ℕ) (a b : Held) → Fine a → Fine b → Apart (a .set) (b .set) → e < relationsOf q - 1 → a .site ≡ b .site → mayJoin q (b .site) ≡ true →
-          links (q .joins) e (a .set) (b .set) ≡ true → Fine (joinOf combine q a b)
-      made e a b fa fb apart known there may linked =
-          let known′ : e < q .joins .count = omega (arith, v .tree .joins) in
+      made : (e : ℕ) (a b : Held) → MayJoin q e a b → Apart (a .set) (b .set) → Fine a → Fine b → Fine (joinOf combine q a b)
+      made e a b may apart fa fb =
+          let known : e < q .joins .count = omega (arith, v .tree .joins) in
           let both-at =
-          joins-at (a .set) (b .set) e (b .site) (a .figure .0) (b .figure .0) (spared q a) (spared q b) (fa .subquery) (fb .subquery) apart known′ may linked
-          (λ s. subst (λ (k : ℕ). indexed q (a .set) k ≡ true) there (spares a s)) (spares b)
-          (subst (λ (k : ℕ). AtMost (delivered combine q (a .set) k) (a .figure .0)) there (at-site a fa)) (at-site b fb) in
+          joins-at (a .set) (b .set) e (b .site) (a .figure .0) (b .figure .0) (spared q a) (spared q b) (fa .subquery) (fb .subquery) apart known (may .may)
+          (may .linked) (λ s. subst (λ (k : ℕ). indexed q (a .set) k ≡ true) (may .there) (spares a s)) (spares b)
+          (subst (λ (k : ℕ). AtMost (delivered combine q (a .set) k) (a .figure .0)) (may .there) (at-site a fa)) (at-site b fb) in
           record {
             subquery = both-at .0;
             listed = fb .listed;
             bounded = (both-at .1, omega (arith, ones-add (a .set) (b .set) apart, ones-some q v (a .set) (fa .subquery), ones-some q v (b .set) (fb .subquery)));
           }
 
-  lower : (plan : List ℕ) (c : ℕ) → AllowedAt combine q plan c → AtMost (cheapest combine q) c
-  lower plan c allowed =
-      let end : Ends q Fine c = allowed-ends combine q Fine fine plan c allowed in
-      let h : Held = end .held in
-      let f : Fine h = end .kept in
-      let bound = reaches (h .origin) (h .set) (h .site) (h .figure .0) (f .subquery) (f .listed) (f .bounded) in
-      at-end (h .set) (h .site) (h .figure .0) (end .whole) (end .delivered) (end .figure) bound
-    where
-      at-end : (S t x : ℕ) → S ≡ all (relationsOf q) → t ≡ q .target → x ≡ c → AtMost (delivered combine q S t) x → AtMost (cheapest combine q) c
-      at-end S t x a b e h = rw (a, b, e) at h
-
 pub cheapest-law : CheapestLaw
-cheapest-law combine laws q v plan c allowed = lower combine laws q v plan c allowed
+cheapest-law combine laws q v plan c allowed =
+    let end : Ends q (Stacks (Fine combine laws q v)) c = allowed-kept combine q _ (fine combine laws q v) plan c allowed in
+    rw (end .whole, end .delivered, end .figure) at (at-site combine laws q v (end .held) (end .kept .1))

@@ -19,11 +19,11 @@ use Rattle.query.specs.Cost.{some}
 use Rattle.query.specs.Query.{Valid, relationsOf, sitesOf, home, isOpen}
 use Rattle.query.specs.Prices.{linePrice, carriage, indexed}
 use Rattle.query.proofs.Prices.{Carried, carried}
+use Rattle.rules.specs.declared.Step.{Step}
 use Rattle.rules.specs.declared.Origin.{Origin}
 use Rattle.rules.specs.declared.Origin.the-variants.{Bare, Sent}
 use Rattle.rules.specs.declared.Held.{Held}
 use Rattle.rules.specs.Machine.{Machine, went, charge, isSent, spared}
-use Rattle.rules.specs.Plans.{Step}
 use Rattle.rules.proofs.Runs.{ran, load-goes, send-goes, ran-then, ran-one}
 use Rattle.tables.specs.Tables.{only, delivered}
 use Rattle.tables.specs.Plan.{loadStep, sendStep, sendIfDue}
@@ -78,7 +78,8 @@ module _ (combine : ℕ → ℕ → ℕ) (q : Query) where
             ran-then combine q xs (sendStep t ∷ []) m (record { loaded = m .loaded + S; stack = heldAt S k o x ∷ m .stack }) (puts m apart)
             ∙ ran-one combine q (sendStep t) (record { loaded = m .loaded + S; stack = heldAt S k o x ∷ m .stack })
             (record { loaded = m .loaded + S; stack = heldAt S t Sent (x + linePrice q S k t) ∷ m .stack })
-            (send-goes combine q t (m .loaded + S) (heldAt S k o x) (m .stack) listed away opened fresh);
+            (send-goes combine q t (m .loaded + S) (heldAt S k o x) (m .stack)
+            (record { listed = listed; away = away; opened = opened; unsent = fresh }));
         long = omega (arith, length-append xs (sendStep t ∷ []));
         short = omega (arith, length-append xs (sendStep t ∷ []));
       }
@@ -101,7 +102,7 @@ module _ (combine : ℕ → ℕ → ℕ) (q : Query) where
   loads : (r : ℕ) → r < relationsOf q → Puts combine q (loadStep r ∷ []) (2 ^ r) (home q r) Bare 0
   loads r l m apart =
       ran-one combine q (loadStep r) m (record { loaded = m .loaded + 2 ^ r; stack = heldAt (2 ^ r) (home q r) Bare 0 ∷ m .stack })
-      (load-goes combine q r m l (omega (arith, apart r, bit-pow r)))
+      (load-goes combine q r m (record { known = l; fresh = omega (arith, apart r, bit-pow r) }))
 
   -- One relation: the load, then a send if one is due.
   pub delivers-one : Valid q → (S t c : ℕ) → Subquery (q .joins) (relationsOf q) S → ones S ≡ 1 → t < sitesOf q → delivered combine q S t ≡ some c →

@@ -19,17 +19,19 @@ use Rattle.query.specs.declared.Query.{Query}
 use Rattle.query.specs.Cost.{some}
 use Rattle.query.specs.Query.{Valid, relationsOf, sitesOf, mayJoin}
 use Rattle.query.specs.Prices.{joinPrice, indexed}
+use Rattle.rules.specs.declared.Step.{Step}
 use Rattle.rules.specs.declared.Origin.the-variants.{Joined}
 use Rattle.rules.specs.declared.Held.{Held}
+use Rattle.rules.specs.Combine.{Combines}
 use Rattle.rules.specs.Machine.{Machine, start, Outcome, went, links, spared}
-use Rattle.rules.specs.Plans.{mostSteps, Step, stepsOf, accepted, finish, checked}
+use Rattle.rules.specs.Plans.{mostSteps, longestPlan, accepted, finish, checked}
 use Rattle.rules.proofs.Links.{links-of}
 use Rattle.rules.proofs.Runs.{join-goes, ran-then, ran-one, ran-ends}
-use Rattle.tables.specs.Tables.{firstPart, otherPart, delivered}
-use Rattle.tables.specs.Plan.{joinStep, sendIfDue, bestSite, bestJoin, joinedSteps, deliveredSteps, stepsUpTo, writtenDelivered, writtenSteps, stepBytes, planBytes}
+use Rattle.tables.specs.Tables.{firstPart, otherPart, delivered, cheapest}
+use Rattle.tables.specs.Plan.{joinStep, sendIfDue, bestSite, bestJoin, joinedSteps, deliveredSteps, stepsUpTo, writtenDelivered, writtenSteps, stepBytes, planBytes, written}
 use Rattle.tables.specs.Theorems.{WrittenLaw}
 use Rattle.tables.proofs.Tables.{ones-some, ones-most, ByJoin, BySite, joined-found, delivered-found}
-use Rattle.tables.proofs.StepBytes.{step-bytes-long}
+use Rattle.tables.proofs.StepBytes.{step-bytes-long, plan-bytes-most, steps-back}
 use Rattle.tables.proofs.Sends.{heldAt, Puts, Delivers, more-unindexed, due, delivers-one}
 
 module _ (combine : ℕ → ℕ → ℕ) (q : Query) where
@@ -47,7 +49,8 @@ module _ (combine : ℕ → ℕ → ℕ) (q : Query) where
       ran-then combine q xs (ys ++ (joinStep e ∷ [])) m first-on (one .puts m free-first)
       ∙ ran-then combine q ys (joinStep e ∷ []) first-on both-on (other .puts first-on free-second)
       ∙ ran-one combine q (joinStep e) both-on _
-      (join-goes combine q e (m .loaded + P + R) (heldAt P k (one .origin) x) (heldAt R k (other .origin) y) (m .stack) known refl may linked)
+      (join-goes combine q e (m .loaded + P + R) (heldAt P k (one .origin) x) (heldAt R k (other .origin) y) (m .stack)
+      (record { known = known; there = refl; may = may; linked = linked }))
       ∙ ends-same k x y P R _ _ _ _ _ _ S (m .stack) (one .reads) (other .reads) whole (omega arith)
     where
       first-on : Machine
@@ -125,11 +128,6 @@ module _ (combine : ℕ → ℕ → ℕ) (q : Query) where
       go (inl one) fewer = rw (eq-eqb (ones S) 1 (sym one)) (delivers-one combine q v S t c s (sym one) listed e)
       go (inr more) fewer = rw (ne-eqb (ones S) 1 (λ h. omega arith)) (delivers-more v (stepsUpTo combine q f) S t c s more listed e fewer)
 
--- A plan's bytes are read back as its steps.
-steps-back : (xs : List Step) → stepsOf (stepBytes xs) ≡ xs
-steps-back [] = refl
-steps-back (x ∷ xs) = rw (steps-back xs)
-
 -- Steps that put every relation at the query site make an allowed plan.
 plan-allowed : (combine : ℕ → ℕ → ℕ) (q : Query) (xs : List Step) (c : ℕ) → Delivers combine q xs (all (relationsOf q)) (q .target) c → length xs ≤ mostSteps →
     checked combine q (planBytes xs) ≡ accepted c
@@ -147,3 +145,7 @@ written-law combine laws q v c e =
     delivers combine q v (relationsOf q) (all (relationsOf q)) (q .target) c whole (ones-most q v (all (relationsOf q)) whole) (v .target-in) e in
     let few : length (writtenSteps combine q) ≤ mostSteps = omega (arith, d .short, ones-ones (relationsOf q), v .relations-most) in
     record { some-step = d .long; few-steps = few; allowed = plan-allowed combine q (writtenSteps combine q) c d few }
+
+-- The written plan fits into the longest one.
+pub written-most : (combine : ℕ → ℕ → ℕ) → Combines combine → (q : Query) → Valid q → (c : ℕ) → cheapest combine q ≡ some c → length (written combine q) ≤ longestPlan
+written-most combine laws q v c e = plan-bytes-most (writtenSteps combine q) (written-law combine laws q v c e .few-steps)

@@ -13,11 +13,11 @@ use Rattle.relations.specs.Theorems.{Split}
 use Rattle.query.specs.declared.Query.{Query}
 use Rattle.query.specs.Cost.{some}
 use Rattle.query.specs.Query.{Valid, relationsOf}
-use Rattle.rules.specs.Plans.{Step}
 use Rattle.tables.specs.Tables.{firstPart, otherPart, delivered, joined}
 use Rattle.tables.specs.Plan.{sendIfDue, bestSite, bestJoin, joinedSteps, deliveredSteps, stepsUpTo, writtenDelivered, writtenJoined}
 use Rattle.tables.specs.Theorems.{WrittenIs}
 use Rattle.tables.proofs.Tables.{ones-some, ones-most, BySite, ByJoin, delivered-found, joined-found}
+use Rattle.rules.specs.declared.Step.{Step}
 
 module _ (combine : ℕ → ℕ → ℕ) (q : Query) (v : Valid q) where
   -- Steps that are equal for smaller subqueries with a number at k.

@@ -8,9 +8,9 @@ use Rattle.relations.specs.Sets.{all}
 use Rattle.query.specs.declared.Query.{Query}
 use Rattle.query.specs.Choice.{pick}
 use Rattle.query.specs.Query.{relationsOf, sitesOf, home}
-use Rattle.rules.specs.Plans.{Step}
 use Rattle.tables.specs.Least.{lowestAt}
 use Rattle.tables.specs.Tables.{firstPart, otherPart, only, byJoin, bySite, delivered, joined}
+use Rattle.rules.specs.declared.Step.{Step}
 
 abbrev pub loadStep : ℕ → Step
 loadStep r = record { kind = 1; arg = r }

@@ -1,6 +1,6 @@
 -- What is proved of the two tables and the written plan, for every valid query (every query that decodes is valid: `DecodeValid`).
 -- The proofs are in proofs/.
-use Prim.Native.Nat.{ℕ, _+_, _≤_}
+use Prim.Native.Nat.{ℕ, _≤_}
 use mathlib.Core.Path.{_≡_}
 use mathlib.Core.Logic.{_↔_}
 use mathlib.Core.List.{List}
@@ -44,13 +44,16 @@ abbrev pub NoRouteLaw : Type 0
 NoRouteLaw =
     (combine : ℕ → ℕ → ℕ) → Combines combine → (q : Query) → Valid q → (cheapest combine q ≡ none) ↔ ((plan : List ℕ) (c : ℕ) → AllowedAt combine q plan c → ⊥)
 
--- No plan of base costs more than this.
+-- What no plan of base costs more than: the most steps over nine relations are 9 loads, 8 joins and 17 sends, each at its dearest.
 abbrev pub mostCost : ℕ
 mostCost = 41_000_025_000_000
 
+-- No plan's figure is above it, however figures are combined.
 abbrev pub PlanMostLaw : Type 0
-PlanMostLaw = (q : Query) → Valid q → (plan : List ℕ) (c : ℕ) → AllowedAt _+_ q plan c → c ≤ mostCost
+PlanMostLaw = (combine : ℕ → ℕ → ℕ) → Combines combine → (q : Query) → Valid q → (plan : List ℕ) (c : ℕ) → AllowedAt combine q plan c → c ≤ mostCost
 
 -- Nor is any figure of the tables above it, of whatever subquery.
 abbrev pub MostLaw : Type 0
-MostLaw = (q : Query) → Valid q → (S t c : ℕ) → Subquery (q .joins) (relationsOf q) S → delivered _+_ q S t ≡ some c → c ≤ mostCost
+MostLaw =
+    (combine : ℕ → ℕ → ℕ) → Combines combine → (q : Query) → Valid q → (S t c : ℕ) → Subquery (q .joins) (relationsOf q) S →
+    delivered combine q S t ≡ some c → c ≤ mostCost

@@ -12,7 +12,7 @@ joined-spec =
     (λ c κs. search needs)
     (λ c κs. search needs)
     (λ c κs. (search needs, search (needs, below-512)))
+    (λ c κs. search needs)
     (λ c. search (needs, sum-fits))
-    (λ c. search needs)
     (λ c. search needs)
     (λ c. search (needs, joined-is)))

@@ -19,5 +19,11 @@ join-spec =
     (λ c κs. search needs)
     (λ c κs. search needs)
     (λ c κs. search needs)
-    (λ c. search (needs, join-goes, c .before .before .before .before .before .before .before .before .pop-two .ensures, c .before .before .before .before .before .before .before .before .before))
+    (λ c.
+    let allowed = c .before .before .before .before in
+    let popped = allowed .before .before .before .before in
+    let known = popped .before .before .before .before in
+    let begun = known .before .before .before in
+    join-goes _ _ _ _ (begun .pre .0 .1) _ _ _ _ _ _ _ (known .if1 .left) (popped .pop-two .ensures .0) (allowed .before .may-join .ensures) (allowed .if3 .taken)
+    (c .before .before .joined .ensures) (c .before .push .ensures) (c .went .ensures))
     (λ c. search (needs, join-not)))

@@ -1,6 +1,6 @@
 -- `stepping::may_join` meets its contract: its tests are those of the rule. Assumes nothing.
 use borrow.Author.Needs.{needs}
-use Rattle.rules.proofs.Outcomes.{joinable-is, links-is}
+use Rattle.rules.proofs.Outcomes.{allowed-is, links-is}
 use Rattle.rules.proofs.stepping.may_join.Statement.{statement}
 use Rattle.rules.proofs.stepping.may_join.Tie as tie
 
@@ -19,4 +19,4 @@ may-join-spec =
     (λ c κs. search needs)
     (λ c. search needs)
     (λ c κs. search needs)
-    (λ c. search (needs, joinable-is, links-is)))
+    (λ c. search (needs, allowed-is, links-is)))

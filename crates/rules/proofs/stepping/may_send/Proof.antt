@@ -1,6 +1,8 @@
 -- `stepping::may_send` meets its contract: its three tests are those of the rule. Assumes nothing.
+use mathlib.Core.Path.{ap}
+use mathlib.Core.Bool.{not}
 use borrow.Author.Needs.{needs}
-use Rattle.rules.proofs.Outcomes.{sendable-is}
+use Rattle.rules.proofs.Outcomes.{allowed-is}
 use Rattle.rules.proofs.stepping.may_send.Statement.{statement}
 use Rattle.rules.proofs.stepping.may_send.Tie as tie
 
@@ -10,4 +12,4 @@ may-send-spec =
     (tie.spec
     (λ c κs. search needs)
     (λ c κs. search needs)
-    (λ c. search (needs, sendable-is)))
+    (λ c. search (needs, allowed-is, ap not (c .is-sent .ensures))))

@@ -1,6 +1,6 @@
 -- `stepping::step` meets its contract: each kind of step is met by its own function. Assumes nothing.
 use borrow.Author.Needs.{needs}
-use Rattle.rules.proofs.Rooms.{wider}
+use Rattle.rules.proofs.Counting.{wider}
 use Rattle.rules.proofs.Outcomes.{step-loads, step-sends, step-joins, step-unknown}
 use Rattle.rules.proofs.stepping.step.Statement.{statement}
 use Rattle.rules.proofs.stepping.step.Tie as tie

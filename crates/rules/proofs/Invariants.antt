@@ -1,0 +1,97 @@
+-- What every step keeps holds where an allowed plan ends. An allowed plan has at most `mostSteps` steps, each of them goes, and one result is held
+-- after the last.
+use Prim.Native.Nat.{ℕ, suc, _+_, _*_, _≤_}
+use mathlib.Core.Path.{_≡_, refl}
+use mathlib.Core.Bool.{Bool, true, false, _&&_}
+use mathlib.Core.List.{List, [], _∷_}
+use lib.ListN.{length}
+use lib.Dec.{eqb, leb}
+use native.Mathlib.Omega.{arith}
+use borrow.Author.Tests.{eqb-true, leb-true}
+use Rattle.relations.specs.Sets.{all}
+use Rattle.relations.proofs.Leads.{both-true}
+use Rattle.query.specs.declared.Query.{Query}
+use Rattle.query.specs.Choice.{pick}
+use Rattle.query.specs.Query.{relationsOf}
+use Rattle.rules.specs.declared.Step.{Step}
+use Rattle.rules.specs.declared.Held.{Held}
+use Rattle.rules.specs.Machine.{Machine, start, Outcome, went, refused, step}
+use Rattle.rules.specs.Plans.{mostSteps, stepsOf, Verdict, accepted, rejected, after, finish, run, checked, AllowedAt}
+
+-- After i steps, where the last one went, I holds.
+abbrev pub Holds : (ℕ → Machine → Type 0) → ℕ → Outcome → Type 0
+Holds I i (went m) = I i m
+Holds I i (refused k) = Unit {0}
+
+-- Every step keeps I.
+abbrev pub Invariant : (ℕ → ℕ → ℕ) → Query → (ℕ → Machine → Type 0) → Type 0
+Invariant combine q I = (i : ℕ) (x : Step) (m : Machine) → I i m → Holds I (suc i) (step combine q (x .kind) (x .arg) m)
+
+-- What an allowed plan of figure c ends with.
+pub record Ends (q : Query) (I : ℕ → Machine → Type 0) (c : ℕ) : Type 0 where
+  pub steps : ℕ
+  pub few : steps ≤ mostSteps
+  pub loaded : ℕ
+  pub held : Held
+  pub kept : I steps (record { loaded = loaded; stack = held ∷ [] })
+  pub whole : held .set ≡ all (relationsOf q)
+  pub delivered : held .site ≡ q .target
+  pub figure : held .figure .0 ≡ c
+
+-- There are no more steps than pairs of bytes.
+steps-few : (bytes : List ℕ) → 2 * length (stepsOf bytes) ≤ length bytes
+steps-few [] = omega arith
+steps-few (k ∷ []) = omega arith
+steps-few (k ∷ (a ∷ bytes)) = omega (arith, steps-few bytes)
+
+module _ (combine : ℕ → ℕ → ℕ) (q : Query) (I : ℕ → Machine → Type 0) (keeps : Invariant combine q I) where
+  abbrev Ended : Verdict → Type 0
+  Ended (accepted c) = Ends q I c
+  Ended (rejected k i) = Unit {0}
+
+  finish-ends : (i L : ℕ) (hs : List Held) → i ≤ mostSteps → I i (record { loaded = L; stack = hs }) → Ended (finish q i hs)
+  unfolding finish
+  finish-ends i L [] few s = tt
+  finish-ends i L (h ∷ []) few s = go (eqb (h .set) (all (relationsOf q)) && eqb (h .site) (q .target)) refl
+    where
+      go : (b : Bool) → (eqb (h .set) (all (relationsOf q)) && eqb (h .site) (q .target)) ≡ b → Ended (pick b (accepted (h .figure .0)) (rejected 12 i))
+      go true e =
+          let two = both-true (eqb (h .set) (all (relationsOf q))) (eqb (h .site) (q .target)) e in
+          record {
+            steps = i;
+            few = few;
+            loaded = L;
+            held = h;
+            kept = s;
+            whole = eqb-true (h .set) (all (relationsOf q)) (two .0);
+            delivered = eqb-true (h .site) (q .target) (two .1);
+            figure = refl;
+          }
+      go false e = tt
+  finish-ends i L (h ∷ (a ∷ hs)) few s = tt
+
+  run-ends : (i : ℕ) (xs : List Step) (m : Machine) → i + length xs ≤ mostSteps → I i m → Ended (run combine q i xs m)
+  unfolding run
+  run-ends i [] m few s = finish-ends i (m .loaded) (m .stack) (omega arith) s
+  run-ends i (x ∷ xs) m few s = go (step combine q (x .kind) (x .arg) m) (keeps i x m s) (λ n. run-ends (suc i) xs n (omega arith))
+    where
+      go : (o : Outcome) → Holds I (suc i) o → ((n : Machine) → I (suc i) n → Ended (run combine q (suc i) xs n)) → Ended (after i o (run combine q (suc i) xs))
+      go (went n) g later = later n g
+      go (refused k) g later = tt
+
+  checked-ends : (plan : List ℕ) → I 0 start → Ended (checked combine q plan)
+  unfolding checked
+  checked-ends [] begun = tt
+  checked-ends (count ∷ bytes) begun = go ((leb 1 count && leb count mostSteps) && eqb (length bytes) (2 * count)) refl
+    where
+      go : (b : Bool) → ((leb 1 count && leb count mostSteps) && eqb (length bytes) (2 * count)) ≡ b →
+          Ended (pick b (run combine q 0 (stepsOf bytes) start) (rejected 7 0))
+      go true e =
+          let whole = both-true (leb 1 count && leb count mostSteps) (eqb (length bytes) (2 * count)) e in
+          let count-in = both-true (leb 1 count) (leb count mostSteps) (whole .0) in
+          run-ends 0 (stepsOf bytes) start
+          (omega (arith, leb-true count mostSteps (count-in .1), eqb-true (length bytes) (2 * count) (whole .1), steps-few bytes)) begun
+      go false e = tt
+
+  pub allowed-ends : (plan : List ℕ) (c : ℕ) → I 0 start → AllowedAt combine q plan c → Ends q I c
+  allowed-ends plan c begun h = rw h at (checked-ends plan begun)
