@@ -15,11 +15,10 @@ use Rattle.rules.specs.Plans.{longestPlan}
 use Rattle.solver.specs.declared.solving.Solved.{Solved}
 use Rattle.solver.specs.declared.solving.Solved.the-variants.{Found, NoRoute}
 use Rattle.tables.specs.Tables.{cheapest, trials}
-use Rattle.tables.specs.Plan.{written, writtenSteps}
+use Rattle.tables.specs.Plan.{written}
 use Rattle.tables.specs.Work.{cellsNeeded}
 use Rattle.solver.specs.Solved.{solvedAs, planAfter}
-use Rattle.tables.proofs.StepBytes.{step-bytes-long}
-use Rattle.tables.proofs.Upper.{written-law}
+use Rattle.tables.proofs.Upper.{written-most}
 use Rattle.rules.proofs.Combinations.{plus-combines}
 use Rattle.planner.specs.declared.Planner.{Planner}
 use Rattle.planner.specs.Solve.{found, noRoute, refused, solve, solveAdmitted}
@@ -101,8 +100,7 @@ module _ (p r : Planner) (s : Solved) (n : ℕ) (loaded : p .loaded ≡ true) (e
 pub found-short : (q : Query) → Valid q → (s : Solved) → s ≡ solvedAs q (cheapest _+_ q) → (c : Charge) (l t : ℕ) → s ≡ Found c l t → l ≤ longestPlan
 found-short q valid s answer c l t is =
     let same = sym answer ∙ is in
-    let few = written-law _+_ plus-combines q valid (c .0) (is-found q c l t (cheapest _+_ q) same) .few-steps in
-    rw (found-length q c l t (cheapest _+_ q) same) (omega (arith, few, step-bytes-long (writtenSteps _+_ q)))
+    rw (found-length q c l t (cheapest _+_ q) same) (written-most _+_ plus-combines q valid (c .0) (is-found q c l t (cheapest _+_ q) same))
 
 -- Solve leaves the query, and a planner that is sound.
 pub solve-sound : (p r : Planner) → Sound p → p .loaded ≡ true → r .query ≡ p .query → r .length ≤ longestPlan → Sound r

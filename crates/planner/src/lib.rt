@@ -9,11 +9,10 @@ pub use calls::read;
 pub use calls::solve;
 use query::Charge;
 use query::Query;
+pub use rules::LONGEST_PLAN;
 
 // The cells that solve needs, whatever the query (`cellsNeeded`).
 pub const CELLS: usize = 4096;
-// The bytes of the longest plan (`longestPlan`).
-pub const LONGEST_PLAN: usize = 69;
 
 // The standing state. Its fields are private, so that only the calls make one.
 pub struct Planner {
