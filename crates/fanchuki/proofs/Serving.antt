@@ -85,24 +85,26 @@ solve-low n s = go (s .query)
     go none = omega arith
     go (some q) = picked-low (λ (d : Done Solve.Answer). solveRefusal (d .answer)) (ltb n (cellsNeeded q)) (omega arith) (solved-low q (cheapest _+_ q))
 
-module _ (a : SolveAnswer) (p : Planner) (s : State) (n : ℕ) (done : doneOf (ofSolve a) p ≡ solve n s) (enough : needed (s .query) ≤ n) where
-  as-needed : doneOf (ofSolve a) p ≡ solve (needed (s .query)) s
-  as-needed = done ∙ solve-enough n s enough
-
-  pub solve-found : (c : Charge) (t k : ℕ) (new out : List ℕ) → a ≡ SolveAnswer.Found c t → served k new ≡ serveRead (stateOf p) out → served k new ≡ serveSolve s out
-  unfolding serveSolve
-  solve-found c t k new out is e = rw (← as-needed, is) e
-
-  pub solve-none : (t : ℕ) (out : List ℕ) → a ≡ SolveAnswer.NoRoute t → served 0 out ≡ serveSolve s out
-  unfolding serveSolve
-  solve-none t out is = rw (← as-needed, is)
-
-  pub solve-refused : (k m : ℕ) (out : List ℕ) → a ≡ SolveAnswer.Refused k → m ≡ 256 + k → served m out ≡ serveSolve s out
-  unfolding serveSolve
-  solve-refused k m out is e = rw (← as-needed, is, e)
-
+module _ (a : SolveAnswer) (p : Planner) (s : State) (n : ℕ) (done : doneOf (ofSolve a) p ≡ solve n s) where
   pub solve-byte : (k : ℕ) → a ≡ SolveAnswer.Refused k → k ≤ 255
   solve-byte k is = rw (← done, is) at (solve-low n s)
+
+  -- It had as many cells as are needed.
+  module _ (enough : needed (s .query) ≤ n) where
+    as-needed : doneOf (ofSolve a) p ≡ solve (needed (s .query)) s
+    as-needed = done ∙ solve-enough n s enough
+
+    pub solve-found : (c : Charge) (t k : ℕ) (new out : List ℕ) → a ≡ SolveAnswer.Found c t → served k new ≡ serveRead (stateOf p) out → served k new ≡ serveSolve s out
+    unfolding serveSolve
+    solve-found c t k new out is e = rw (← as-needed, is) e
+
+    pub solve-none : (t : ℕ) (out : List ℕ) → a ≡ SolveAnswer.NoRoute t → served 0 out ≡ serveSolve s out
+    unfolding serveSolve
+    solve-none t out is = rw (← as-needed, is)
+
+    pub solve-refused : (k m : ℕ) (out : List ℕ) → a ≡ SolveAnswer.Refused k → m ≡ 256 + k → served m out ≡ serveSolve s out
+    unfolding serveSolve
+    solve-refused k m out is e = rw (← as-needed, is, e)
 
 -- A query that was loaded, on an empty planner, is solved; else the output stays.
 abbrev loadRefusal : Load.Answer → ℕ

@@ -34,11 +34,14 @@ pub needed-enough : (o : Option Query) (n : ℕ) → ampleCells ≤ n → needed
 needed-enough none n h = omega arith
 needed-enough (some q) n h = cells-enough q n h
 
--- The later cells, by the query that stands.
+-- The later cells, by the constant and by the query that stands.
+pub cells-past : (q : Query) (new old : List ℕ) → drop ampleCells new ≡ drop ampleCells old → drop (cellsNeeded q) new ≡ drop (cellsNeeded q) old
+cells-past q new old e = rw (cells-needed q) e
+
 pub cells-later :
-    (p : Planner) (new old : List ℕ) → p .loaded ≡ true → drop ampleCells new ≡ drop ampleCells old →
+    (p : Planner) (new old : List ℕ) → p .loaded ≡ true → drop (cellsNeeded (p .query)) new ≡ drop (cellsNeeded (p .query)) old →
     drop (needed (stateOf p .query)) new ≡ drop (needed (stateOf p .query)) old
-cells-later p new old loaded e = rw (loaded, cells-needed (p .query)) e
+cells-later p new old loaded e = rw loaded e
 
 -- Cells past the needed ones change neither the answer nor the state.
 pub solve-enough : (n : ℕ) (s : State) → needed (s .query) ≤ n → solve n s ≡ solve (needed (s .query)) s

@@ -13,7 +13,7 @@ solve-spec =
     (λ c. (search (needs, solving), (search needs, (refl, λ _. refl))))
     (λ c. (search (needs, solving), (search needs, (refl, λ _. refl))))
     (λ c. search needs)
-    (λ c κs. (search (needs, solving), (omega arith, omega arith)))
+    (λ c κs. (search (needs, solving), (search (needs, solving), omega arith)))
     (λ c. search needs)
     (λ c. search needs)
     (λ c. search needs)
