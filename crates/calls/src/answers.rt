@@ -6,6 +6,7 @@ use crate::output::line;
 use crate::output::line_two;
 use crate::output::one;
 use crate::output::text;
+use planner::CELLS;
 use planner::CheckAnswer;
 use planner::LinkAnswer;
 use planner::LoadAnswer;
@@ -39,18 +40,18 @@ fn say_cells(kept: bool) {
     }
 }
 
-// All lent cells stay on a refusal, and those from 4,096 on otherwise.
+// All lent cells stay on a refusal, and those past the needed ones otherwise.
 pub(crate) fn of_solve(a: SolveAnswer, cells: &[u64; 8192], n: usize)
     requires { ⌜ n ≤ 8192 ⌝ }
 {
     match a {
         SolveAnswer::Found { cost, trials } => {
             line_two(b"solve ", cost.0, trials);
-            say_cells(cells_kept(cells, 4096, n));
+            say_cells(cells_kept(cells, CELLS, n));
         }
         SolveAnswer::NoRoute { trials } => {
             line(b"no-route ", trials);
-            say_cells(cells_kept(cells, 4096, n));
+            say_cells(cells_kept(cells, CELLS, n));
         }
         SolveAnswer::Refused(k) => {
             line(b"refused ", k);

@@ -1,14 +1,15 @@
 // Checks plans from standard input: a query file and a plan, and so on, each after its length in two bytes, little-endian.
 // Prints the cost of an allowed plan, or the refusal's number and place; where the query itself is refused, its number alone.
-ghost use Prim.Native.Nat.{_≤_};
+ghost use Prim.Native.Nat.{_<_};
 ghost use lib.ListN.{length};
+ghost use Rattle.records.specs.Records.{Onward};
 use libc::STDIN_FILENO;
 use libc::STDOUT_FILENO;
 use query::Charge;
 use query::Outcome;
 use query::Query;
 use query::decode;
-use records::record;
+use records::record_at;
 use rules::Checked;
 use rules::check;
 
@@ -58,31 +59,30 @@ fn report(file: &[u8], plan: &[u8]) {
     }
 }
 
-// Checks the first pair of the input, and answers how many bytes it took: 0 at the end of the input.
-fn first(input: &[u8]) -> usize
-    ensures { λ r. ⌜ r ≤ length (now (input .entry)) ⌝ }
+// Checks the pair at a place of the input, if neither is cut, and answers where it ends.
+fn pair_at(input: &[u8], at: usize) -> usize
+    requires { ⌜ at < length (now input) ⌝ }
+    ensures { λ r. ⌜ Onward (now (input .entry)) at r ⌝ }
 {
-    let n = record(input);
-    if n < 2 {
-        return 0;
+    let file = record_at(input, at);
+    let start = file.start;
+    let middle = file.end;
+    if middle < input.len() {} else {
+        return middle;
     }
-    let rest = &input[n..];
-    let m = record(rest);
-    if m < 2 {
-        return 0;
+    let plan = record_at(input, middle);
+    let steps = plan.start;
+    let end = plan.end;
+    if plan.whole {
+        report(&input[start..middle], &input[steps..end]);
     }
-    report(&input[2..n], &rest[2..m]);
-    n + m
+    end
 }
 
 fn all(input: &[u8]) {
     let mut at = 0;
     while at < input.len() {
-        let used = first(&input[at..]);
-        if used == 0 {
-            return;
-        }
-        at += used;
+        at = pair_at(input, at);
     }
 }
 

@@ -1,24 +1,25 @@
 -- Every planner that a list of calls gives is sound, and the query that stands in it is the query in force: by induction over the list.
-use Prim.Native.Nat.{ℕ, _+_}
+use Prim.Native.Nat.{ℕ}
 use mathlib.Core.Path.{_≡_, refl, sym, ap, _∙_}
 use mathlib.Core.Bool.{Bool, true, false}
-use mathlib.Core.List.{List, [], _∷_}
+use mathlib.Core.List.{List}
 use mathlib.Core.Option.{Option, none, some}
 use lib.ListN.{length}
-use lib.Dec.{ltb}
 use denote.Ref.{now}
 use Rattle.query.specs.declared.Query.{Query}
 use Rattle.query.specs.Choice.{pick}
-use Rattle.query.specs.Cost.{Cost}
 use Rattle.query.specs.Fields.{Read, value}
 use Rattle.query.specs.Fields as fields
 use Rattle.query.specs.Decode.{decode}
 use Rattle.query.specs.Query.{sitesOf}
-use Rattle.tables.specs.Tables.{cheapest}
 use Rattle.planner.specs.declared.Planner.{Planner}
 use Rattle.planner.specs.State.{State}
-use Rattle.planner.specs.Calls.{Done, refusing, Link, linkOf, sitesListed, termsInRange, load, loadDecoded, link, linkQuery, solve, solveQuery, solved}
+use Rattle.planner.specs.Done.{Done}
+use Rattle.planner.specs.Load.{load, loadDecoded}
+use Rattle.planner.specs.Link as linking
+use Rattle.planner.specs.Link.{Link, linkOf, sitesListed, termsInRange, link, linkQuery}
 use Rattle.planner.specs.Contracts.{stateOf, Sound}
+use Rattle.planner.proofs.Again.{solve-query}
 use Rattle.claim.specs.Lists.{Call, afterLoad, afterLink, inForce, Runs, at-first, loads, links, solves, reads, checks}
 
 pub sound : {calls : List Call} {p : Planner} → Runs calls p → Sound p
@@ -39,44 +40,29 @@ unfolding load
 load-query file s = decoded-query (decode file) s
 
 -- Of two choices by one test: what holds of both pairs holds of the two that are chosen.
-both-picked : (P : Done → Option Query → Type 0) (t : Bool) {x y : Done} {a b : Option Query} → P x a → P y b → P (pick t x y) (pick t a b)
+both-picked : {A : Type 0} (P : A → Option Query → Type 0) (t : Bool) {x y : A} {a b : Option Query} → P x a → P y b → P (pick t x y) (pick t a b)
 both-picked P true h k = h
 both-picked P false h k = k
 
 linked-query : (o : Option Query) (l : Link) (s : State) → o ≡ s .query → linkQuery o l s .next .query ≡ afterLink l o
 linked-query none l s e = sym e
 linked-query (some q) l s e =
-    let P : Done → Option Query → Type 0 = λ d a. d .next .query ≡ a in
+    let P : Done linking.Answer → Option Query → Type 0 = λ d a. d .next .query ≡ a in
     both-picked P (sitesListed (sitesOf q) (l .sender) (l .receiver)) (both-picked P (termsInRange (l .terms)) refl (sym e)) (sym e)
 
 link-query : (l : Link) (s : State) → link l s .next .query ≡ afterLink l (s .query)
 unfolding link
 link-query l s = linked-query (s .query) l s refl
 
-solved-query : (q : Query) (c : Cost) → solved q c .next .query ≡ some q
-solved-query q Cost.none = refl
-solved-query q (Cost.some c) = refl
-
-solve-standing : (o : Option Query) (n : ℕ) (s : State) → o ≡ s .query → solveQuery o n s .next .query ≡ o
-solve-standing none n s e = sym e
-solve-standing (some q) n s e = picked (ltb n 4096) (refusing 21 s) (solved q (cheapest _+_ q)) (sym e) (solved-query q (cheapest _+_ q))
-  where
-    picked : (t : Bool) (x y : Done) → x .next .query ≡ some q → y .next .query ≡ some q → (pick t x y) .next .query ≡ some q
-    picked true x y h k = h
-    picked false x y h k = k
-
-solve-query : (n : ℕ) (s : State) → solve n s .next .query ≡ s .query
-unfolding solve
-solve-query n s = solve-standing (s .query) n s refl
+-- What a call leaves standing, by what its definition does.
+left-standing : {A : Type 0} {d e : Done A} → d ≡ e → d .next .query ≡ e .next .query
+left-standing e = rw e
 
 pub stands : {calls : List Call} {p : Planner} → Runs calls p → stateOf p .query ≡ inForce calls
 unfolding inForce
 stands (at-first e) = ap (λ (s : State). s .query) (e .0)
-stands (loads {p} κs file last r w e) =
-    ap (λ (d : Done). d .next .query) (e .0) ∙ load-query (now file) (stateOf p) ∙ ap (afterLoad (decode (now file))) (stands w)
-stands (links {p} a b f x r d w e) =
-    ap (λ (z : Done). z .next .query) (e .0) ∙ link-query (linkOf a b f x r) (stateOf p) ∙ ap (afterLink (linkOf a b f x r)) (stands w)
-stands (solves {p} κs cells last r w e) =
-    ap (λ (d : Done). d .next .query) (e .0) ∙ solve-query (length (now cells)) (stateOf p) ∙ stands w
+stands (loads {p} κs file last r w e) = left-standing (e .0) ∙ load-query (now file) (stateOf p) ∙ ap (afterLoad (decode (now file))) (stands w)
+stands (links {p} a b f x r d w e) = left-standing (e .0) ∙ link-query (linkOf a b f x r) (stateOf p) ∙ ap (afterLink (linkOf a b f x r)) (stands w)
+stands (solves {p} κs cells last r w e) = left-standing (e .0) ∙ solve-query (length (now cells)) (stateOf p) ∙ stands w
 stands (reads κs output last r w e) = stands w
 stands (checks κs plan last r w e) = stands w

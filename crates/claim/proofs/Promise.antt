@@ -4,7 +4,6 @@ use native.Mathlib.Omega.{arith}
 use mathlib.Core.Path.{_≡_, refl, sym, ap, subst, _∙_}
 use mathlib.Core.Logic.{_↔_}
 use mathlib.Core.Bool.{Bool, true, false}
-use mathlib.Core.List.{List}
 use mathlib.Core.Option.{Option, none, some}
 use lib.ListN.{length}
 use denote.Ref.{now}
@@ -15,16 +14,18 @@ use Rattle.query.specs.Cost.{Cost}
 use Rattle.query.specs.Query.{Valid}
 use Rattle.tables.specs.Tables.{cheapest, trials}
 use Rattle.tables.specs.Plan.{written}
+use Rattle.tables.specs.Work.{cellsNeeded}
 use Rattle.tables.proofs.Upper.{written-law}
 use Rattle.tables.proofs.Lower.{cheapest-law}
 use Rattle.rules.proofs.Combinations.{plus-combines}
 use Rattle.tables.proofs.Optimum.{no-route-law}
 use Rattle.planner.specs.declared.Planner.{Planner}
 use Rattle.planner.specs.State.{State}
-use Rattle.planner.specs.Calls.{Answer, Done, found, noRoute, solve, solved, solveAdmitted}
+use Rattle.planner.specs.Done.{Done}
+use Rattle.planner.specs.Solve.{Answer, noRoute, solve, solved, solveAdmitted}
 use Rattle.planner.specs.Contracts.{stateOf, doneOf, ofSolve, Sound}
 use Rattle.claim.specs.Lists.{inForce}
-use Rattle.claim.specs.Claim.{NoPlan, Right, Solved, Demand3, EveryCall}
+use Rattle.claim.specs.Claim.{NoPlan, Right, Demand3, EveryCall}
 use Rattle.claim.proofs.InForce.{sound, stands}
 
 pub every-call : EveryCall
@@ -41,25 +42,25 @@ standing-valid p q s = go (p .loaded) refl
     go false e f = absurd (let z : _≡_ {A = ℕ} 0 1 = cc in omega arith)
 
 -- An admitted solve has a query in force, and cells enough.
-admitted : (o : Option Query) (n : ℕ) → solveAdmitted o n ≡ true → (q : Query) × (o ≡ some q) × (4096 ≤ n)
+admitted : (o : Option Query) (n : ℕ) → solveAdmitted o n ≡ true → (q : Query) × (o ≡ some q) × (cellsNeeded q ≤ n)
 admitted none n e = absurd (let z : _≡_ {A = ℕ} 0 1 = cc in omega arith)
-admitted (some q) n e = (q, refl, leb-true 4096 n e)
+admitted (some q) n e = (q, refl, leb-true (cellsNeeded q) n e)
 
 -- Then it comes to what the query costs.
-solve-is : (s : State) (q : Query) (n : ℕ) → s .query ≡ some q → 4096 ≤ n → solve n s ≡ solved q (cheapest _+_ q)
+solve-is : (s : State) (q : Query) (n : ℕ) → s .query ≡ some q → cellsNeeded q ≤ n → solve n s ≡ solved q (cheapest _+_ q)
 unfolding solve
-solve-is s q n e h = rw (e, le-ltb n 4096 h)
+solve-is s q n e h = rw (e, le-ltb n (cellsNeeded q) h)
 
 module _ (q : Query) (valid : Valid q) (a : Answer) (p : Planner) where
   -- What solve answers, by what the query costs, is right.
   right : (c : Cost) → cheapest _+_ q ≡ c → doneOf a p ≡ solved q c → Right q a p
   right Cost.none e d =
-      subst (λ (x : Answer). Right q x p) (sym (ap (λ (y : Done). y .answer) d))
-      ((λ plan w. no-route-law _+_ plus-combines q valid .0 e plan (w .0) (w .1)), ap (λ (y : Done). y .next .kept) d, refl)
+      subst (λ (x : Answer). Right q x p) (sym (ap (λ (y : Done Answer). y .answer) d))
+      ((λ plan w. no-route-law _+_ plus-combines q valid .0 e plan (w .0) (w .1)), ap (λ (y : Done Answer). y .next .kept) d, refl)
   right (Cost.some c) e d =
       let w = written-law _+_ plus-combines q valid c e in
-      subst (λ (x : Answer). Right q x p) (sym (ap (λ (y : Done). y .answer) d)) (
-        record { kept = record { plan = written _+_ q; cost = c }; is-kept = ap (λ (y : Done). y .next .kept) d; allowed = w .allowed; cost = refl },
+      subst (λ (x : Answer). Right q x p) (sym (ap (λ (y : Done Answer). y .answer) d)) (
+        record { kept = record { plan = written _+_ q; cost = c }; is-kept = ap (λ (y : Done Answer). y .next .kept) d; allowed = w .allowed; cost = refl },
         (λ plan x h. rw e at (cheapest-law _+_ plus-combines q valid plan x h)),
         refl,
       )
@@ -82,5 +83,5 @@ demand3 calls p w κs cells last r post ok =
       query = q;
       in-force = h .1;
       right = right q valid (ofSolve (r .answer)) (r .planner) (cheapest _+_ q) refl d;
-      no-route = exactly q valid (ofSolve (r .answer)) (r .planner) (cheapest _+_ q) refl (ap (λ (y : Done). y .answer) d);
+      no-route = exactly q valid (ofSolve (r .answer)) (r .planner) (cheapest _+_ q) refl (ap (λ (y : Done Answer). y .answer) d);
     }

@@ -4,9 +4,9 @@ use Prim.{tt}
 use Prim.Native.Nat.{ℕ, _+_, _≤_}
 use mathlib.Core.Path.{_≡_}
 use mathlib.Core.Logic.{_↔_}
-use mathlib.Core.Bool.{Bool, true}
+use mathlib.Core.Bool.{true}
 use mathlib.Core.List.{List}
-use mathlib.Core.Option.{Option, none, some}
+use mathlib.Core.Option.{none, some}
 use lib.ListN.{length}
 use denote.Ref.{RefT, now}
 use contract.Lifetimes.{Lfts}
@@ -16,7 +16,7 @@ use Rattle.tables.specs.Tables.{trials}
 use Rattle.planner.specs.declared.Planner.{Planner}
 use Rattle.planner.specs.declared.AfterSolve.{AfterSolve}
 use Rattle.planner.specs.State.{Kept}
-use Rattle.planner.specs.Calls.{Answer, found, noRoute, solveAdmitted}
+use Rattle.planner.specs.Solve.{Answer, found, noRoute, refused, solveAdmitted}
 use Rattle.planner.specs.Contracts.{stateOf, ofSolve}
 use Rattle.planner.proofs.load.Reads as Load
 use Rattle.planner.proofs.link.Reads as Link
@@ -45,11 +45,7 @@ pub record KeptAt (q : Query) (c : ℕ) (p : Planner) : Type 0 where
 abbrev pub Right : Query → Answer → Planner → Type 0
 Right q (noRoute t) p = NoPlan q × (stateOf p .kept ≡ none) × (t ≡ trials q)
 Right q (found c t) p = KeptAt q c p × NoneCheaper q c × (t ≡ trials q)
-Right q (Answer.loaded n m) p = ⊥
-Right q Answer.linked p = ⊥
-Right q (Answer.wrote l c) p = ⊥
-Right q (Answer.allowed c) p = ⊥
-Right q (Answer.refused k place) p = ⊥
+Right q (refused k) p = ⊥
 
 -- What the list's last solve comes to.
 pub record Solved (calls : List Call) (r : AfterSolve) : Type 0 where

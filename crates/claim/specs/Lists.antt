@@ -1,7 +1,6 @@
 -- Lists of calls: what a call brings, which planners a list can give, and the query in force, which is worked out from the list alone.
 use Prim.{tt}
 use Prim.Native.Nat.{ℕ}
-use mathlib.Core.Bool.{Bool, true, false}
 use mathlib.Core.List.{List, [], _∷_}
 use mathlib.Core.Option.{Option, none, some}
 use denote.Ref.{RefT, now}
@@ -18,7 +17,7 @@ use Rattle.planner.specs.declared.AfterLink.{AfterLink}
 use Rattle.planner.specs.declared.AfterSolve.{AfterSolve}
 use Rattle.planner.specs.declared.ReadAnswer.{ReadAnswer}
 use Rattle.planner.specs.declared.CheckAnswer.{CheckAnswer}
-use Rattle.planner.specs.Calls.{Link, linkOf, sitesListed, termsInRange, relinedBy}
+use Rattle.planner.specs.Link.{Link, linkOf, sitesListed, termsInRange, relinedBy}
 use Rattle.planner.proofs.empty.Reads as Empty
 use Rattle.planner.proofs.load.Reads as Load
 use Rattle.planner.proofs.link.Reads as Link-reads

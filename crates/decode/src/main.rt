@@ -1,6 +1,7 @@
 // Decodes query files from standard input, each after its length in two bytes, little-endian, and prints what each holds.
-ghost use Prim.Native.Nat.{_≤_};
+ghost use Prim.Native.Nat.{_<_};
 ghost use lib.ListN.{length};
+ghost use Rattle.records.specs.Records.{Onward};
 use libc::STDIN_FILENO;
 use libc::STDOUT_FILENO;
 use query::Lines;
@@ -9,7 +10,7 @@ use query::Query;
 use query::Relations;
 use query::Sites;
 use query::decode;
-use records::record;
+use records::record_at;
 use relations::Joins;
 
 // A number after a space.
@@ -108,26 +109,24 @@ fn report(file: &[u8]) {
     }
 }
 
-// Reports the first file of the input, and answers how many bytes it took with its length: 0 at the end of the input.
-fn first(input: &[u8]) -> usize
-    ensures { λ r. ⌜ r ≤ length (now (input .entry)) ⌝ }
+// Reports the file at a place of the input, unless it is cut, and answers where it ends.
+fn file_at(input: &[u8], at: usize) -> usize
+    requires { ⌜ at < length (now input) ⌝ }
+    ensures { λ r. ⌜ Onward (now (input .entry)) at r ⌝ }
 {
-    let n = record(input);
-    if n < 2 {
-        return 0;
+    let file = record_at(input, at);
+    let start = file.start;
+    let end = file.end;
+    if file.whole {
+        report(&input[start..end]);
     }
-    report(&input[2..n]);
-    n
+    end
 }
 
 fn all(input: &[u8]) {
     let mut at = 0;
     while at < input.len() {
-        let used = first(&input[at..]);
-        if used == 0 {
-            return;
-        }
-        at += used;
+        at = file_at(input, at);
     }
 }
 

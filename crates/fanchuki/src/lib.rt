@@ -1,4 +1,5 @@
 // The call for the report server, which is written in C and hands over bytes.
+use planner::CELLS;
 use planner::LoadAnswer;
 use planner::Planner;
 use planner::ReadAnswer;
@@ -33,7 +34,7 @@ fn solve(p: Planner, output: &mut [u8]) -> u64
     requires { ⌜ Sound p ⌝ }
     ensures { λ r. ⌜ served r (now (output .exit)) ≡ serveSolve (stateOf p) (now (output .entry)) ⌝ }
 {
-    let mut cells = [0u64; 4096];
+    let mut cells = [0u64; CELLS];
     let d = planner::solve(p, &mut cells);
     let a = d.answer;
     match a {

@@ -1,6 +1,8 @@
 // The listing of a query file's answer, as document 01 prints it: in decimal, a line for the answer and one for each step.
 // Each function answers how many lines it wrote; what the lines say is held to stored outputs.
 use libc::STDOUT_FILENO;
+use planner::CELLS;
+use planner::LONGEST_PLAN;
 use planner::LoadAnswer;
 use planner::Planner;
 use planner::ReadAnswer;
@@ -83,7 +85,7 @@ fn read(p: Planner, cost: Charge, trials: u64) -> usize
     requires { ⌜ Sound p ⌝ }
     ensures { λ r. ⌜ 1 ≤ r ⌝ }
 {
-    let mut bytes = [0u8; 69];
+    let mut bytes = [0u8; LONGEST_PLAN];
     let a = planner::read(p, &mut bytes);
     match a {
         ReadAnswer::Refused(k) => refused(k),
@@ -96,7 +98,7 @@ fn solve(p: Planner) -> usize
     requires { ⌜ Sound p ⌝ }
     ensures { λ r. ⌜ 1 ≤ r ⌝ }
 {
-    let mut cells = [0u64; 4096];
+    let mut cells = [0u64; CELLS];
     let solved = planner::solve(p, &mut cells);
     let a = solved.answer;
     match a {

@@ -1,2 +1,8 @@
-pub mod Answers
+pub mod Standing
+pub mod Loading
+pub mod Linking
+pub mod Cells
+pub mod Again
 pub mod Solving
+pub mod Reading
+pub mod Checking

@@ -2,37 +2,43 @@
 use Prim.Native.Nat.{ℕ, _+_, _≤_, _<_}
 use native.Mathlib.Omega.{arith}
 use mathlib.Core.Path.{_≡_, refl, sym, _∙_}
-use mathlib.Core.Bool.{Bool, true, false}
-use mathlib.Core.List.{List, _++_}
+use mathlib.Core.Bool.{true, false}
+use mathlib.Core.List.{List}
 use lib.ListN.{length, drop}
 use lib.Seq.{take-append-seam}
 use borrow.Author.Tests.{lt-ltb, le-ltb, le-leb}
 use Rattle.query.specs.declared.Query.{Query}
 use Rattle.query.specs.declared.Charge.{Charge}
 use Rattle.query.specs.Cost.{Cost, none, some}
+use Rattle.query.specs.Query.{Valid}
+use Rattle.rules.specs.Plans.{longestPlan}
 use Rattle.solver.specs.declared.solving.Solved.{Solved}
 use Rattle.solver.specs.declared.solving.Solved.the-variants.{Found, NoRoute}
 use Rattle.tables.specs.Tables.{cheapest, trials}
-use Rattle.tables.specs.Plan.{written, writtenSteps}
+use Rattle.tables.specs.Plan.{written}
+use Rattle.tables.specs.Work.{cellsNeeded}
 use Rattle.solver.specs.Solved.{solvedAs, planAfter}
-use Rattle.tables.proofs.StepBytes.{step-bytes-long}
-use Rattle.tables.proofs.Upper.{written-law}
+use Rattle.tables.proofs.Upper.{written-most}
 use Rattle.rules.proofs.Combinations.{plus-combines}
 use Rattle.planner.specs.declared.Planner.{Planner}
-use Rattle.planner.specs.Calls.{found, noRoute, refused, solve, solveAdmitted}
+use Rattle.planner.specs.Solve.{found, noRoute, refused, solve, solveAdmitted}
 use Rattle.planner.specs.Contracts.{stateOf, doneOf, Sound}
+use Rattle.planner.proofs.Standing.{standing-valid}
+use Rattle.planner.proofs.Cells.{cells-few, cells-enough, cells-past, cells-later}
 
-pub solve-nothing : (p : Planner) (n : ℕ) → p .loaded ≡ false → doneOf (refused 20 0) p ≡ solve n (stateOf p)
+pub solve-nothing : (p : Planner) (n : ℕ) → p .loaded ≡ false → doneOf (refused 20) p ≡ solve n (stateOf p)
 unfolding solve
 solve-nothing p n e = rw e
 
-pub solve-few : (p : Planner) (n : ℕ) → p .loaded ≡ true → n < 4096 → doneOf (refused 21 0) p ≡ solve n (stateOf p)
+pub solve-few : (p : Planner) (n : ℕ) → p .loaded ≡ true → n < cellsNeeded (p .query) → doneOf (refused 21) p ≡ solve n (stateOf p)
 unfolding solve
-solve-few p n e h = rw (e, lt-ltb n 4096 h)
+solve-few p n e h = rw (e, lt-ltb n (cellsNeeded (p .query)) h)
 
--- Where solve is admitted nothing is said of a refusal.
-pub not-refused : (p : Planner) (n : ℕ) {A : Type 0} → p .loaded ≡ true → 4096 ≤ n → solveAdmitted (stateOf p .query) n ≡ false → A
-not-refused p n e h f = absurd (let g : true ≡ false = rw (e, le-leb 4096 n h) at f in let z : _≡_ {A = ℕ} 0 1 = cc in omega arith)
+-- Where solve is admitted nothing is said of the cells after a refusal.
+pub not-refused :
+    (p : Planner) (new old : List ℕ) → p .loaded ≡ true → cellsNeeded (p .query) ≤ length old → solveAdmitted (stateOf p .query) (length old) ≡ false → new ≡ old
+not-refused p new old e h f =
+    absurd (let g : true ≡ false = rw (e, le-leb (cellsNeeded (p .query)) (length old) h) at f in let z : _≡_ {A = ℕ} 0 1 = cc in omega arith)
 
 -- The solver's answer by what the query costs.
 module _ (q : Query) (c : Charge) (l t : ℕ) where
@@ -56,7 +62,7 @@ none-trials : (q : Query) (t : ℕ) (x : Cost) → solvedAs q x ≡ NoRoute t �
 none-trials q t none e = cc
 none-trials q t (some d) e = absurd (let z : _≡_ {A = ℕ} 0 1 = cc in omega arith)
 
-module _ (p r : Planner) (s : Solved) (n : ℕ) (loaded : p .loaded ≡ true) (enough : 4096 ≤ n) (answer : s ≡ solvedAs (p .query) (cheapest _+_ (p .query)))
+module _ (p r : Planner) (s : Solved) (n : ℕ) (loaded : p .loaded ≡ true) (enough : cellsNeeded (p .query) ≤ n) (answer : s ≡ solvedAs (p .query) (cheapest _+_ (p .query)))
     (r-loaded : r .loaded ≡ p .loaded) (r-query : r .query ≡ p .query) where
   -- The planner after a plan was found: it is kept, with its cost.
   module _ (c : Charge) (l t : ℕ) (is : s ≡ Found c l t) where
@@ -77,27 +83,40 @@ module _ (p r : Planner) (s : Solved) (n : ℕ) (loaded : p .loaded ≡ true) (e
           f,
           g,
           w,
-          le-ltb n 4096 enough,
+          le-ltb n (cellsNeeded (p .query)) enough,
           e,
           found-length (p .query) c l t (cheapest _+_ (p .query)) same,
           found-trials (p .query) c l t (cheapest _+_ (p .query)) same,
           take-append-seam (written _+_ (p .query)) (drop (length (written _+_ (p .query))) old),
         )
 
-    pub found-sound : Sound p → r .length ≡ l → Sound r
-    found-sound v g = record {
-      valid = λ _. rw r-query (v .valid loaded);
-      short =
-          let e = is-found (p .query) c l t (cheapest _+_ (p .query)) same in
-          let few = written-law _+_ plus-combines (p .query) (v .valid loaded) (c .0) e .few-steps in
-          rw (g, found-length (p .query) c l t (cheapest _+_ (p .query)) same) (omega (arith, few, step-bytes-long (writtenSteps _+_ (p .query))));
-    }
-
   pub solve-no-route : (t : ℕ) → s ≡ NoRoute t → r .kept ≡ false → doneOf (noRoute t) r ≡ solve n (stateOf p)
   unfolding solve
   solve-no-route t is k =
       let e = is-none (p .query) t (cheapest _+_ (p .query)) (sym answer ∙ is) in
-      rw (r-loaded, loaded, r-query, k, le-ltb n 4096 enough, e, none-trials (p .query) t (cheapest _+_ (p .query)) (sym answer ∙ is))
+      rw (r-loaded, loaded, r-query, k, le-ltb n (cellsNeeded (p .query)) enough, e, none-trials (p .query) t (cheapest _+_ (p .query)) (sym answer ∙ is))
 
-  pub no-route-sound : Sound p → r .length ≡ p .length → Sound r
-  no-route-sound v g = record { valid = λ _. rw r-query (v .valid loaded); short = rw g (v .short) }
+-- A plan that was found is no longer than a plan may be.
+pub found-short : (q : Query) → Valid q → (s : Solved) → s ≡ solvedAs q (cheapest _+_ q) → (c : Charge) (l t : ℕ) → s ≡ Found c l t → l ≤ longestPlan
+found-short q valid s answer c l t is =
+    let same = sym answer ∙ is in
+    rw (found-length q c l t (cheapest _+_ q) same) (written-most _+_ plus-combines q valid (c .0) (is-found q c l t (cheapest _+_ q) same))
+
+-- Solve leaves the query, and a planner that is sound.
+pub solve-sound : (p r : Planner) → Sound p → p .loaded ≡ true → r .query ≡ p .query → r .length ≤ longestPlan → Sound r
+solve-sound p r s loaded same short = record { valid = λ _. rw same (s .valid loaded); short = short }
+
+pub ruleset solving = (
+  solve-nothing,
+  solve-few,
+  not-refused,
+  solve-found,
+  found-short,
+  solve-no-route,
+  solve-sound,
+  cells-few,
+  cells-enough,
+  cells-past,
+  cells-later,
+  standing-valid,
+)

@@ -1,25 +1,25 @@
 -- How the code's planner and answers stand for document 01's: a number and values for each case of an answer.
-use Prim.Native.Nat.{ℕ, _≤_}
+use Prim.Native.Nat.{_≤_}
 use mathlib.Core.Path.{_≡_}
-use mathlib.Core.Bool.{Bool, true, false}
-use mathlib.Core.Option.{Option, none, some}
+use mathlib.Core.Bool.{true}
+use mathlib.Core.Option.{none, some}
 use lib.ListN.{take}
-use Rattle.query.specs.declared.Query.{Query}
 use Rattle.query.specs.Choice.{pick}
 use Rattle.query.specs.Query.{Valid}
+use Rattle.rules.specs.Plans.{longestPlan}
 use Rattle.planner.specs.declared.Planner.{Planner}
 use Rattle.planner.specs.declared.LoadAnswer.{LoadAnswer}
-use Rattle.planner.specs.declared.LoadAnswer.the-variants as load-answer
 use Rattle.planner.specs.declared.LinkAnswer.{LinkAnswer}
-use Rattle.planner.specs.declared.LinkAnswer.the-variants as link-answer
 use Rattle.planner.specs.declared.SolveAnswer.{SolveAnswer}
-use Rattle.planner.specs.declared.SolveAnswer.the-variants as solve-answer
 use Rattle.planner.specs.declared.ReadAnswer.{ReadAnswer}
-use Rattle.planner.specs.declared.ReadAnswer.the-variants as read-answer
 use Rattle.planner.specs.declared.CheckAnswer.{CheckAnswer}
-use Rattle.planner.specs.declared.CheckAnswer.the-variants as check-answer
-use Rattle.planner.specs.State.{Kept, State}
-use Rattle.planner.specs.Calls.{Answer, Done, doneWith, loaded, linked, found, noRoute, wrote, allowed, refused}
+use Rattle.planner.specs.State.{State}
+use Rattle.planner.specs.Done.{Done, doneWith}
+use Rattle.planner.specs.Load as Load
+use Rattle.planner.specs.Link as Link
+use Rattle.planner.specs.Solve as Solve
+use Rattle.planner.specs.Read as Read
+use Rattle.planner.specs.Check as Check
 
 -- The standing state of a planner.
 abbrev pub stateOf : Planner → State
@@ -30,33 +30,33 @@ stateOf p =
     }
 
 -- An answer and the state of the planner that the call leaves.
-abbrev pub doneOf : Answer → Planner → Done
+abbrev pub doneOf : {Answer : Type 0} → Answer → Planner → Done Answer
 doneOf a p = doneWith a (stateOf p)
 
--- The answers by document 01's numbers and values.
-abbrev pub ofLoad : LoadAnswer → Answer
-ofLoad (load-answer.Loaded n m) = loaded n m
-ofLoad (load-answer.Refused k) = refused k 0
+-- Each call's answer by document 01's numbers and values.
+abbrev pub ofLoad : LoadAnswer → Load.Answer
+ofLoad (LoadAnswer.Loaded n m) = Load.loaded n m
+ofLoad (LoadAnswer.Refused k) = Load.refused k
 
-abbrev pub ofLink : LinkAnswer → Answer
-ofLink link-answer.Linked = linked
-ofLink (link-answer.Refused k) = refused k 0
+abbrev pub ofLink : LinkAnswer → Link.Answer
+ofLink LinkAnswer.Linked = Link.linked
+ofLink (LinkAnswer.Refused k) = Link.refused k
 
-abbrev pub ofSolve : SolveAnswer → Answer
-ofSolve (solve-answer.Found c t) = found (c .0) t
-ofSolve (solve-answer.NoRoute t) = noRoute t
-ofSolve (solve-answer.Refused k) = refused k 0
+abbrev pub ofSolve : SolveAnswer → Solve.Answer
+ofSolve (SolveAnswer.Found c t) = Solve.found (c .0) t
+ofSolve (SolveAnswer.NoRoute t) = Solve.noRoute t
+ofSolve (SolveAnswer.Refused k) = Solve.refused k
 
-abbrev pub ofRead : ReadAnswer → Answer
-ofRead (read-answer.Wrote l c) = wrote l (c .0)
-ofRead (read-answer.Refused k) = refused k 0
+abbrev pub ofRead : ReadAnswer → Read.Answer
+ofRead (ReadAnswer.Wrote l c) = Read.wrote l (c .0)
+ofRead (ReadAnswer.Refused k) = Read.refused k
 
-abbrev pub ofCheck : CheckAnswer → Answer
-ofCheck (check-answer.Accepted c) = allowed (c .0)
-ofCheck (check-answer.Refused k place) = refused k place
+abbrev pub ofCheck : CheckAnswer → Check.Answer
+ofCheck (CheckAnswer.Accepted c) = Check.allowed (c .0)
+ofCheck (CheckAnswer.Refused k place) = Check.refused k place
 
--- What holds of every planner that the calls make: a standing query is valid, and a kept plan has at most 69 bytes.
+-- What holds of every planner that the calls make: a standing query is valid, and a kept plan is no longer than a plan may be.
 -- Every list of calls gives such a planner: `Runs` and its laws.
 pub record Sound (p : Planner) : Type 0 where
   pub valid : p .loaded ≡ true → Valid (p .query)
-  pub short : p .length ≤ 69
+  pub short : p .length ≤ longestPlan

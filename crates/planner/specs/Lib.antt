@@ -1,3 +1,8 @@
 pub mod State
-pub mod Calls
+pub mod Done
+pub mod Load
+pub mod Link
+pub mod Solve
+pub mod Read
+pub mod Check
 pub mod Contracts

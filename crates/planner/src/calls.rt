@@ -2,7 +2,9 @@
 use crate::AfterLink;
 use crate::AfterLoad;
 use crate::AfterSolve;
+use crate::CELLS;
 use crate::CheckAnswer;
+use crate::LONGEST_PLAN;
 use crate::LinkAnswer;
 use crate::LoadAnswer;
 use crate::Planner;
@@ -20,11 +22,12 @@ ghost use mathlib.Core.Path.{_≡_};
 ghost use mathlib.Core.Bool.{false};
 ghost use lib.ListN.{length, drop};
 ghost use Rattle.planner.specs.State.{nothing};
-ghost use Rattle.planner.specs.Calls.{load, link, linkOf, sitesListed, termsInRange, relinedBy, solve, solveAdmitted, readingOf, read, check};
+ghost use Rattle.planner.specs.Load.{load};
+ghost use Rattle.planner.specs.Link.{link, linkOf, sitesListed, termsInRange, relinedBy};
+ghost use Rattle.planner.specs.Solve.{solve, solveAdmitted, needed};
+ghost use Rattle.planner.specs.Read.{readingOf, read};
+ghost use Rattle.planner.specs.Check.{check};
 ghost use Rattle.planner.specs.Contracts.{stateOf, doneOf, ofLoad, ofLink, ofSolve, ofRead, ofCheck, Sound};
-
-// The cells that solve needs.
-const CELLS: usize = 4096;
 
 // The empty planner: no query stands and no plan is kept.
 pub fn empty() -> Planner
@@ -36,7 +39,7 @@ pub fn empty() -> Planner
         kept: false,
         cost: Charge(0),
         length: 0,
-        plan: [0u8; 69],
+        plan: [0u8; LONGEST_PLAN],
     }
 }
 
@@ -134,12 +137,12 @@ pub fn link(p: Planner, sender: u64, receiver: u64, opened: u64, fixed: u64, rat
 }
 
 // Solve: keeps the cheapest plan and answers its cost and trials, or answers no route with trials and keeps none.
-// Of the cells only those from 4,096 on are said to stay; a refusal leaves them all.
+// Of the cells only those past the needed ones are said to stay; a refusal leaves them all.
 pub fn solve(p: Planner, cells: &mut [u64]) -> AfterSolve
     requires { ⌜ Sound p ⌝ }
     ensures done { λ r. ⌜ doneOf (ofSolve (r .answer)) (r .planner) ≡ solve (length (now (cells .entry))) (stateOf p) ⌝ }
     ensures sound { λ r. ⌜ Sound (r .planner) ⌝ }
-    ensures later { λ _. ⌜ drop 4096 (now (cells .exit)) ≡ drop 4096 (now (cells .entry)) ⌝ }
+    ensures later { λ _. ⌜ drop (needed (stateOf p .query)) (now (cells .exit)) ≡ drop (needed (stateOf p .query)) (now (cells .entry)) ⌝ }
     ensures refused { λ _. ⌜ (solveAdmitted (stateOf p .query) (length (now (cells .entry))) ≡ false → now (cells .exit) ≡ now (cells .entry)) ⌝ }
 {
     if p.loaded {} else {
@@ -154,7 +157,7 @@ pub fn solve(p: Planner, cells: &mut [u64]) -> AfterSolve
             planner: p,
         };
     }
-    let mut plan = [0u8; 69];
+    let mut plan = [0u8; LONGEST_PLAN];
     let s = solver::solve(p.query, cells, &mut plan);
     match s {
         Solved::Found {

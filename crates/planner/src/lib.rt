@@ -9,6 +9,10 @@ pub use calls::read;
 pub use calls::solve;
 use query::Charge;
 use query::Query;
+pub use rules::LONGEST_PLAN;
+
+// The cells that solve needs, whatever the query (`cellsNeeded`).
+pub const CELLS: usize = 4096;
 
 // The standing state. Its fields are private, so that only the calls make one.
 pub struct Planner {
@@ -19,7 +23,7 @@ pub struct Planner {
     kept: bool,
     cost: Charge,
     length: usize,
-    plan: [u8; 69],
+    plan: [u8; LONGEST_PLAN],
 }
 
 // What load answers: the number of relations and of subqueries, or the refusal's number.

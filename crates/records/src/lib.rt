@@ -1,8 +1,15 @@
 // Records on the programs' inputs: each stands after its length in two bytes, little-endian.
-ghost use Prim.Native.Nat.{_≤_, _<_};
+ghost use Prim.Native.Nat.{_<_};
 ghost use mathlib.Core.Path.{_≡_};
 ghost use lib.ListN.{length};
-ghost use Rattle.records.specs.Records.{recordLength};
+ghost use Rattle.records.specs.Records.{cutAt, recordAt, Placed};
+
+// Where the record at a place lies, without its length. Where it is cut nothing is left of the input.
+pub struct Record {
+    pub whole: bool,
+    pub start: usize,
+    pub end: usize,
+}
 
 fn wide(x: u8) -> usize
     ensures { λ r. ⌜ (r ≡ x) × (r < 256) ⌝ }
@@ -10,16 +17,34 @@ fn wide(x: u8) -> usize
     x as usize
 }
 
-// How many bytes the first record of the input takes with its length: 0 where it is cut.
-pub fn record(input: &[u8]) -> usize
-    ensures { λ r. ⌜ (r ≡ recordLength (now (input .entry))) × (r ≤ length (now (input .entry))) ⌝ }
+// A record that is cut ends the input.
+fn cut(length: usize) -> Record
+    ensures { λ r. ⌜ r ≡ cutAt length ⌝ }
 {
-    if input.len() < 2 {
-        return 0;
+    Record {
+        whole: false,
+        start: length,
+        end: length,
     }
-    let n = wide(input[0]) + 256 * wide(input[1]) + 2;
-    if input.len() < n {
-        return 0;
+}
+
+// The record at a place of the input.
+pub fn record_at(input: &[u8], at: usize) -> Record
+    requires { ⌜ at < length (now input) ⌝ }
+    ensures is { λ r. ⌜ r ≡ recordAt (now (input .entry)) at ⌝ }
+    ensures placed { λ r. ⌜ Placed (now (input .entry)) at r ⌝ }
+{
+    if input.len() - at < 2 {
+        return cut(input.len());
     }
-    n
+    let start = at + 2;
+    let n = wide(input[at]) + 256 * wide(input[at + 1]);
+    if input.len() - start < n {
+        return cut(input.len());
+    }
+    Record {
+        whole: true,
+        start,
+        end: start + n,
+    }
 }

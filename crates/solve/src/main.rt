@@ -1,29 +1,28 @@
 // Lists the cheapest plan of each query file on standard input. A file stands after its length in two bytes, little-endian.
 use libc::STDIN_FILENO;
-use records::record;
-ghost use Prim.Native.Nat.{_≤_};
+use records::record_at;
+ghost use Prim.Native.Nat.{_<_};
 ghost use lib.ListN.{length};
+ghost use Rattle.records.specs.Records.{Onward};
 
-// Lists the first file of the input, and answers how many bytes it took with its length: 0 at the end of the input.
-fn first(input: &[u8]) -> usize
-    ensures { λ r. ⌜ r ≤ length (now (input .entry)) ⌝ }
+// Lists the file at a place of the input, unless it is cut, and answers where it ends.
+fn file_at(input: &[u8], at: usize) -> usize
+    requires { ⌜ at < length (now input) ⌝ }
+    ensures { λ r. ⌜ Onward (now (input .entry)) at r ⌝ }
 {
-    let n = record(input);
-    if n < 2 {
-        return 0;
+    let file = record_at(input, at);
+    let start = file.start;
+    let end = file.end;
+    if file.whole {
+        listing::list(&input[start..end]);
     }
-    listing::list(&input[2..n]);
-    n
+    end
 }
 
 fn all(input: &[u8]) {
     let mut at = 0;
     while at < input.len() {
-        let used = first(&input[at..]);
-        if used == 0 {
-            return;
-        }
-        at += used;
+        at = file_at(input, at);
     }
 }
 

@@ -1,14 +1,18 @@
--- Each turn solves on a sound planner and counts at most one plan.
+-- Each turn solves on a sound planner whose query is the first one's, and counts what that query's solve finds.
 use Prim.Native.Nat.{_≤_, _-_}
 use mathlib.Core.Path.{_≡_}
 use lib.ListN.{length}
 use borrow.Author.Needs.{needs}
-use Rattle.planner.specs.Contracts.{Sound}
+use Rattle.planner.specs.Contracts.{stateOf, Sound}
+use Rattle.planner.proofs.Cells.{ampleCells}
+use Rattle.timed.specs.Plans.{plansBy, answerIn}
+use Rattle.timed.proofs.Counting.{counting}
 use Rattle.timed.proofs.solves.Statement.{statement}
 use Rattle.timed.proofs.solves.Tie as tie
 
 abbrev Inv-loop : tie.InvT-loop
-Inv-loop times cells₀ p₀ plans₀ i₀ cells p plans i = (i ≤ times) × ((plans ≤ i) × (Sound p × (length cells ≡ 4096)))
+Inv-loop times cells₀ p₀ plans₀ i₀ cells p plans i =
+    (i ≤ times) × (plans ≤ i) × (length cells ≡ ampleCells) × Sound p × (stateOf p .query ≡ stateOf p₀ .query) × (plans ≡ plansBy (answerIn (stateOf p₀)) i)
 
 abbrev μ-loop : tie.MeasureT-loop
 μ-loop times cells₀ p₀ plans₀ i₀ cells p plans i = times - i
@@ -19,12 +23,12 @@ solves-spec =
     (tie.spec
     Inv-loop
     μ-loop
-    (λ c. search needs)
+    (λ c. search (needs, counting))
     (λ c. search needs)
     (λ c κs. search needs)
     (λ c κs. search needs)
+    (λ c. search (needs, counting))
     (λ c. search needs)
     (λ c. search needs)
-    (λ c. search needs)
-    (λ c. search needs)
-    (λ c. search needs))
+    (λ c. search (needs, counting))
+    (λ c. search (needs, counting)))

@@ -1,4 +1,4 @@
-use Rattle.planner.proofs.Answers.{checking}
+use Rattle.planner.proofs.Checking.{checking}
 use borrow.Author.Needs.{needs}
 use Rattle.planner.proofs.calls.check.Statement.{statement}
 use Rattle.planner.proofs.calls.check.Tie as tie

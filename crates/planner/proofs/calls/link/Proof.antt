@@ -1,4 +1,4 @@
-use Rattle.planner.proofs.Answers.{linking, listed-low}
+use Rattle.planner.proofs.Linking.{linking}
 use borrow.Author.Needs.{needs}
 use Rattle.planner.proofs.calls.link.Statement.{statement}
 use Rattle.planner.proofs.calls.link.Tie as tie
@@ -12,7 +12,5 @@ link-spec =
     (λ c. (search (needs, linking), search needs))
     (λ c κs. search needs)
     (λ c. (search (needs, linking), search needs))
-    (λ c κs. let s = c .before .before .before .before .before .before in
-    let l = c .before .before .before in
-    listed-low (s .args .p) (s .args .sender) (s .args .receiver) (s .pre) (l .before .before .if1 .taken) _ (l .sites-listed .ensures) (c .before .before .if2 .taken))
+    (λ c κs. search (needs, linking))
     (λ c. (search (needs, linking), search (needs, linking))))

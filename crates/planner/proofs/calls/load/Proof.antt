@@ -1,4 +1,4 @@
-use Rattle.planner.proofs.Answers.{loading}
+use Rattle.planner.proofs.Loading.{loading}
 use borrow.Author.Needs.{needs}
 use Rattle.planner.proofs.calls.load.Statement.{statement}
 use Rattle.planner.proofs.calls.load.Tie as tie

@@ -1,6 +1,6 @@
 -- The test is the definition's.
 use mathlib.Core.Path.{refl}
-use Rattle.planner.specs.Calls.{sitesListed}
+use Rattle.planner.specs.Link.{sitesListed}
 use Rattle.planner.proofs.calls.sites_listed.Statement.{statement}
 use Rattle.planner.proofs.calls.sites_listed.Tie as tie
 

@@ -1,6 +1,6 @@
 -- The test is the definition's.
 use mathlib.Core.Path.{refl}
-use Rattle.planner.specs.Calls.{termsInRange}
+use Rattle.planner.specs.Link.{termsInRange}
 use Rattle.planner.proofs.calls.terms_in_range.Statement.{statement}
 use Rattle.planner.proofs.calls.terms_in_range.Tie as tie
 

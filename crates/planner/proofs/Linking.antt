@@ -1,0 +1,67 @@
+-- One law for each way through link: what the tests on that way make of the call's definition. A test is given by its value t.
+use Prim.Native.Nat.{ℕ, _≤_, _<_}
+use mathlib.Core.Path.{_≡_, sym, _∙_}
+use mathlib.Core.Bool.{Bool, true, false, _&&_}
+use borrow.Author.Tests.{ltb-true, leb-true}
+use lib.Dec.{ltb, leb}
+use native.Mathlib.Omega.{arith}
+use Rattle.relations.proofs.Leads.{both-true}
+use Rattle.query.specs.Decode.{Terms}
+use Rattle.query.specs.Query.{sitesOf}
+use Rattle.query.proofs.Linked.{linked-valid}
+use Rattle.planner.specs.declared.Planner.{Planner}
+use Rattle.planner.specs.Link.{Link, linked, refused, link, sitesListed, termsInRange, relinedBy}
+use Rattle.planner.specs.Contracts.{stateOf, doneOf, Sound}
+
+pub link-nothing : (p : Planner) (l : Link) → p .loaded ≡ false → doneOf (refused 20) p ≡ link l (stateOf p)
+unfolding link
+link-nothing p l e = rw e
+
+module _ (p : Planner) (l : Link) (loaded : p .loaded ≡ true) (t : Bool) (listed : t ≡ sitesListed (sitesOf (p .query)) (l .sender) (l .receiver)) where
+  pub link-unlisted : t ≡ false → doneOf (refused 6) p ≡ link l (stateOf p)
+  unfolding link
+  link-unlisted n = rw (loaded, ← listed, n)
+
+  module _ (both-listed : t ≡ true) (u : Bool) (ranged : u ≡ termsInRange (l .terms)) where
+    pub link-out : u ≡ false → doneOf (refused 3) p ≡ link l (stateOf p)
+    unfolding link
+    link-out n = rw (loaded, ← listed, both-listed, ← ranged, n)
+
+    -- The planner after an admitted link: the query has the line, and no plan is kept.
+    pub link-goes : (r : Planner) → u ≡ true → r .loaded ≡ true → r .kept ≡ false → r .query ≡ relinedBy (p .query) l → doneOf linked r ≡ link l (stateOf p)
+    unfolding link
+    link-goes r in-range h k m = rw (loaded, ← listed, both-listed, ← ranged, in-range, h, k, m)
+
+terms-fair : (t : Terms) → termsInRange t ≡ true → (t .fixed ≤ 1_000_000) × (t .rate ≤ 1_000)
+unfolding termsInRange
+terms-fair t e =
+    let a = both-true (leb (t .flag) 1 && leb (t .fixed) 1_000_000) (leb (t .rate) 1_000) e in
+    (leb-true _ _ (both-true (leb (t .flag) 1) (leb (t .fixed) 1_000_000) (a .0) .1), leb-true _ _ (a .1))
+
+pub link-sound :
+    (p r : Planner) (l : Link) → Sound p → p .loaded ≡ true → (u : Bool) → u ≡ termsInRange (l .terms) → u ≡ true → r .length ≡ p .length →
+    r .query ≡ relinedBy (p .query) l → Sound r
+link-sound p r l s e u ranged in-range h m =
+    let fair = terms-fair (l .terms) (sym ranged ∙ in-range) in
+    record {
+      valid = λ _. rw m (linked-valid (p .query) (s .valid e) (l .sender) (l .receiver) (l .terms) (fair .0) (fair .1));
+      short = rw h (s .short);
+    }
+
+-- Listed sites are below eight.
+module _ (p : Planner) (a b : ℕ) (sound : Sound p) (loaded : p .loaded ≡ true) (t : Bool) (listed : t ≡ sitesListed (sitesOf (p .query)) a b) (both : t ≡ true) where
+  both-low : (a < 8) × (b < 8)
+  unfolding sitesListed
+  both-low =
+      let n = sitesOf (p .query) in
+      let h = both-true (ltb a n) (ltb b n) (both-true (ltb a n && ltb b n) _ (sym listed ∙ both) .0) in
+      let v = sound .valid loaded in
+      omega (arith, ltb-true a n (h .0), ltb-true b n (h .1))
+
+  pub sender-low : a < 8
+  sender-low = both-low .0
+
+  pub receiver-low : b < 8
+  receiver-low = both-low .1
+
+pub ruleset linking = (link-nothing, link-unlisted, link-out, link-goes, link-sound, sender-low, receiver-low)

@@ -1,0 +1,49 @@
+-- One law for each way through load: what the decoder's outcome makes of the call's definition.
+use Prim.Native.Nat.{ℕ}
+use mathlib.Core.List.{List}
+use mathlib.Core.Path.{_≡_, refl}
+use mathlib.Core.Bool.{true, false}
+use native.Mathlib.Omega.{arith}
+use Rattle.query.specs.declared.Query.{Query}
+use Rattle.query.specs.declared.sections.Outcome.{Outcome}
+use Rattle.query.specs.declared.decoding.Decoded.{Decoded}
+use Rattle.query.specs.Fields.{Read, value}
+use Rattle.query.specs.Fields as fields
+use Rattle.query.specs.Code.{decodedOf}
+use Rattle.query.specs.Decode.{decode}
+use Rattle.query.proofs.Valid.{decoded-valid}
+use Rattle.planner.specs.declared.Planner.{Planner}
+use Rattle.planner.specs.State.{State, standing}
+use Rattle.planner.specs.Done.{doneWith}
+use Rattle.planner.specs.Load.{loaded, refused, loadDecoded, load}
+use Rattle.planner.specs.Contracts.{stateOf, doneOf, Sound}
+
+-- What a decoded file makes of a load, over what `decode` gives.
+refused-load : (x : Read Query) (s : State) (k : ℕ) → decodedOf x .outcome ≡ Outcome.Refused k → doneWith (refused k) s ≡ loadDecoded x s
+refused-load (fields.refused j) s k e = let f : j ≡ k = cc in rw f
+refused-load (value q l) s k e = absurd (let z : _≡_ {A = ℕ} 0 1 = cc in omega arith)
+
+whole-load :
+    (x : Read Query) (s : State) → decodedOf x .outcome ≡ Outcome.Whole →
+    doneWith (loaded (decodedOf x .query .relations .count) (decodedOf x .subqueries)) (standing (decodedOf x .query)) ≡ loadDecoded x s
+whole-load (fields.refused j) s e = absurd (let z : _≡_ {A = ℕ} 0 1 = cc in omega arith)
+whole-load (value q l) s e = refl
+
+module _ (p : Planner) (file : List ℕ) (d : Decoded) (decoded : d ≡ decodedOf (decode file)) where
+  pub load-refused : (k : ℕ) → d .outcome ≡ Outcome.Refused k → doneOf (refused k) p ≡ load file (stateOf p)
+  unfolding load
+  load-refused k e = refused-load (decode file) (stateOf p) k (rw decoded at e)
+
+  -- The planner after an admitted load: the query stands, and no plan is kept.
+  module _ (r : Planner) (whole : d .outcome ≡ Outcome.Whole) (r-query : r .query ≡ d .query) where
+    pub load-goes : r .loaded ≡ true → r .kept ≡ false → doneOf (loaded (d .query .relations .count) (d .subqueries)) r ≡ load file (stateOf p)
+    unfolding load
+    load-goes h k = rw (h, k, r-query, decoded) (whole-load (decode file) (stateOf p) (rw decoded at whole))
+
+    pub load-sound : Sound p → r .length ≡ p .length → Sound r
+    load-sound s h = record {
+      valid = λ _. rw r-query (decoded-valid file d decoded whole);
+      short = rw h (s .short);
+    }
+
+pub ruleset loading = (load-refused, load-goes, load-sound)

@@ -1,0 +1,23 @@
+-- Check, with a lent plan: answers the cost; the state stays. Refusals 20, then those of the plan.
+use Prim.Native.Nat.{ℕ, _+_}
+use mathlib.Core.List.{List}
+use mathlib.Core.Option.{Option, none, some}
+use Rattle.query.specs.declared.Query.{Query}
+use Rattle.rules.specs.Plans.{Verdict, accepted, rejected, checked}
+use Rattle.planner.specs.State.{State}
+
+-- What check answers. A refusal has its number and its place: the step from 0 for 8 to 11, the count for 12; else 0.
+pub data Answer : Type 0 where
+  allowed : (cost : ℕ) → Answer
+  refused : (number place : ℕ) → Answer
+
+abbrev pub judged : Verdict → Answer
+judged (accepted c) = allowed c
+judged (rejected k place) = refused k place
+
+abbrev pub checkQuery : Option Query → List ℕ → Answer
+checkQuery none plan = refused 20 0
+checkQuery (some q) plan = judged (checked _+_ q plan)
+
+unfoldable pub check : List ℕ → State → Answer
+check plan s = checkQuery (s .query) plan
