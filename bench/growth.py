@@ -52,9 +52,11 @@ with open("target/bench/shapes.txt", encoding="utf8") as f:
 page = [
     "# How fast solve is, and how it grows",
     "",
-    "`make bench ARGS=growth` writes this page and the plot anew. Each time is the best of ten or more in one run beside the plain C of bench/. Times are of one machine; the ratios are what to compare.",
+    "`make bench ARGS=growth` writes this page and the plot anew. Each time is the best of fifty in one run, taken in turns with the C of bench/plain.c. Times are of one machine; the ratios are what to compare.",
     "",
-    "## Beside plain C",
+    "## Beside C",
+    "",
+    "bench/plain.c is written to win. Its figures are doubles, exact for these whole numbers, because the lesser of two doubles is one instruction on every x86-64 and that of two 64-bit integers is not; a trial there is one sum and one lesser for all sites at once; lines, prices and splits are made ready by its load. `make bench ARGS='compare COUNT SEED'` holds it to the product's answers on random queries.",
     "",
     "```",
     shapes,
@@ -68,7 +70,7 @@ page = [
     "",
     *grid(lambda r: f"{r[2]}, {r[3] / 1000:.2f} µs"),
     "",
-    "The same as a ratio to the plain C at -O2. A small query's time is mostly that of handing over the state by value, some 50 KB of copies, which the C does not do.",
+    "The same as a ratio to that C at -O2. A small query's time is mostly that of handing over the state by value, which the C does not do.",
     "",
     *grid(lambda r: f"{r[3] / r[4]:.2f}"),
 ]

@@ -1,235 +1,344 @@
-/* Masks for splits, joins outside and sites inside, the sizes of a split read once. Compiled at -O2 and at -O3 -march=native. */
+/* Four ideas make it fast. It is compiled at -O2 and at -O3 -march=native.
+ *
+ * A figure is a double. Every cost is a whole number far below 2^53, so sums, products and comparisons are exact. None is
+ * infinity, and a sum with it stays infinity. The lesser of two is one instruction, which it is not for 64-bit integers.
+ *
+ * A cell holds what a subquery costs as an operand at each site: Delivered, and the read. So a trial is one sum and one
+ * lesser for all sites at once. Everything else is fixed + rate x size, with one row of each for every place where a
+ * result is made: the load makes them ready.
+ *
+ * The joins are a tree, hung from relation 0. A join is known by its lower relation, and the part beyond it is what hangs
+ * from there, so a split is one mask.
+ *
+ * A set is a subquery where just one of its relations hangs from none of them. Sixty-four sets are tested at once.
+ */
 #include "plain.h"
 
+#include <math.h>
 #include <string.h>
+
+#define NONE ((double)INFINITY)
+#define INLINED static inline __attribute__((always_inline))
+
+/* The width is 4 or 8 where this is compiled. Vectors are made first, and what is left of the loop then unrolled. */
+#define EACH_LANE(k) _Pragma("GCC unroll 4") for (int k = 0; k < width; k++)
+
+enum { CUT = 1, COUNT = 2, RANGE = 3, APART = 4, MORE = 5, SHORT = 23, REFUSED = 256 };
+enum { MOST_FIXED = 1000000, MOST_RATE = 1000, MOST_SIZE = 1000000000 };
+enum { LOAD = 1, SEND = 2, JOIN = 3 };
+
+/* ---- The query file */
 
 typedef struct {
     const uint8_t *at, *end;
-    int refusal;
+    int refusal; /* of the first fault; nothing is read after it */
 } reader;
 
-static uint64_t field(reader *r, int width, int fault, uint64_t low, uint64_t high)
+/* A field of one, two or four bytes. */
+INLINED int field(reader *r, int width, int low, int high, int fault)
 {
-    uint64_t v = 0;
     if (r->refusal)
         return 0;
     if (r->end - r->at < width) {
-        r->refusal = 1;
+        r->refusal = CUT;
         return 0;
     }
-    for (int i = width; i-- > 0;)
-        v = v << 8 | r->at[i];
+    uint32_t v = r->at[0];
+    if (width > 1)
+        v |= (uint32_t)r->at[1] << 8;
+    if (width > 2)
+        v |= (uint32_t)r->at[2] << 16 | (uint32_t)r->at[3] << 24;
     r->at += width;
-    if (v < low || high < v)
+    if (v < (uint32_t)low || (uint32_t)high < v)
         r->refusal = fault;
-    return v;
+    return (int)v;
 }
 
-static unsigned ends_of(const plain_query *q, int e)
+INLINED int byte_below(reader *r, int limit) { return field(r, 1, 0, limit - 1, RANGE); }
+
+INLINED int amount(reader *r, int most) { return field(r, 4, 0, most, RANGE); }
+
+INLINED void count(reader *r, int width, int n) { field(r, width, n, n, COUNT); }
+
+static void read_sites(reader *r, plain_query *q)
 {
-    return 1u << q->first[e] | 1u << q->second[e];
+    q->join_fixed = q->join_rate = (plain_lanes){{0}};
+    for (int k = 0; !r->refusal && k < q->sites; k++) {
+        int may = byte_below(r, 2), fixed = amount(r, MOST_FIXED);
+        q->join_fixed.at[k] = may ? fixed : NONE;
+        q->join_rate.at[k] = amount(r, MOST_RATE);
+    }
 }
 
-/* What relation r reaches within `within` without join `skip`. */
-static unsigned grow(const plain_query *q, unsigned within, int skip, unsigned taken)
+static void read_relations(reader *r, plain_query *q)
 {
-    for (int e = 0; e < q->relations - 1; e++) {
-        unsigned ends = ends_of(q, e), had = taken & ends;
-        if (e != skip && (within & ends) == ends && had != 0 && had != ends) {
-            taken |= ends;
-            e = -1;
+    for (int i = 0; !r->refusal && i < q->relations; i++) {
+        q->home[i] = (uint8_t)byte_below(r, q->sites);
+        q->indexed[i] = (uint8_t)byte_below(r, 2);
+    }
+}
+
+/* Hangs the relations from relation 0, nearest first, by the relations that each is joined with. */
+static void hang(reader *r, plain_query *q, const uint16_t joined[9])
+{
+    uint8_t order[9] = {0};
+    uint32_t met = 1;
+    int n = 1;
+    for (int i = 0; i < n; i++) {
+        uint32_t next = joined[order[i]] & ~met;
+        met |= next;
+        for (; next; next &= next - 1) {
+            order[n] = (uint8_t)__builtin_ctz(next);
+            q->above[order[n++]] = order[i];
         }
     }
-    return taken;
+    if (n < q->relations)
+        r->refusal = APART;
+    for (int i = 0; i < n; i++)
+        q->below[order[i]] = 1u << order[i];
+    while (--n > 0)
+        q->below[q->above[order[n]]] |= q->below[order[n]];
 }
 
-static int ones(unsigned set)
+static void read_joins(reader *r, plain_query *q)
 {
-    int n = 0;
-    for (; set; set &= set - 1)
-        n++;
-    return n;
+    uint8_t second[8];
+    uint16_t joined[9] = {0};
+    for (int e = 0; !r->refusal && e < q->relations - 1; e++) {
+        int a = byte_below(r, q->relations), b = byte_below(r, q->relations);
+        if (r->refusal)
+            return;
+        q->first[e] = (uint8_t)a;
+        second[e] = (uint8_t)b;
+        joined[a] |= (uint16_t)(1u << b);
+        joined[b] |= (uint16_t)(1u << a);
+    }
+    if (r->refusal)
+        return;
+    hang(r, q, joined);
+    for (int e = 0; !r->refusal && e < q->relations - 1; e++)
+        q->lower[e] = q->below[q->first[e]] >> second[e] & 1 ? second[e] : q->first[e];
 }
 
-static int is_subquery(const plain_query *q, const unsigned *ends, unsigned set, int relations)
+/* Of the sixty-four sets of a word those with relation r, as bits. */
+INLINED uint64_t having(int word, int r)
 {
-    int joins = 0;
-    for (int e = 0; e < q->relations - 1; e++)
-        joins += (set & ends[e]) == ends[e];
-    return joins + 1 == relations;
+    static const uint64_t low[6] = {0xaaaaaaaaaaaaaaaa, 0xcccccccccccccccc, 0xf0f0f0f0f0f0f0f0,
+                                    0xff00ff00ff00ff00, 0xffff0000ffff0000, 0xffffffff00000000};
+    return r < 6 ? low[r] : -(uint64_t)(word >> (r - 6) & 1);
+}
+
+/* Of the sixty-four sets of a word the subqueries, as bits. */
+static uint64_t subqueries_of(const plain_query *q, int word)
+{
+    uint64_t one = having(word, 0), more = 0;
+    for (int r = 1; r < q->relations; r++) {
+        uint64_t top = having(word, r) & ~having(word, q->above[r]);
+        more |= one & top;
+        one |= top;
+    }
+    return one & ~more & (q->relations < 6 ? ((uint64_t)1 << (1 << q->relations)) - 1 : UINT64_MAX);
+}
+
+static void find_subqueries(plain_query *q)
+{
+    uint32_t hanging[9] = {0}, low[64]; /* what hangs from each relation, and from any of the six lowest in a set */
+    int n = q->relations;
+    for (int r = 1; r < n; r++)
+        hanging[q->above[r]] |= 1u << r;
+    low[0] = 0;
+    for (int r = 0; r < n && r < 6; r++)
+        for (int set = 0; set < 1 << r; set++)
+            low[1 << r | set] = low[set] | hanging[r];
+    q->subqueries = 0;
+    for (int word = 0; word << 6 < 1 << n; word++) {
+        uint32_t high = 0;
+        for (int r = 6; r < n; r++)
+            high |= word >> (r - 6) & 1 ? hanging[r] : 0;
+        for (uint64_t found = subqueries_of(q, word); found; found &= found - 1) {
+            int i = __builtin_ctzll(found), set = word << 6 | i;
+            q->subquery[q->subqueries++] = (uint16_t)set;
+            q->inner[set] = (uint16_t)((uint32_t)set & (low[i] | high));
+        }
+    }
+}
+
+static void read_sizes(reader *r, plain_query *q)
+{
+    for (int i = 0; !r->refusal && i < q->subqueries; i++)
+        q->size[q->subquery[i]] = (uint32_t)amount(r, MOST_SIZE);
+}
+
+static void read_lines(reader *r, plain_query *q)
+{
+    for (int a = 0; !r->refusal && a < q->sites; a++) {
+        plain_lanes fixed = {{0}}, rate = q->join_rate;
+        for (int b = 0; b < q->sites; b++)
+            if (a != b) {
+                int open = byte_below(r, 2), line = amount(r, MOST_FIXED);
+                fixed.at[b] = open ? line : NONE;
+                rate.at[b] += amount(r, MOST_RATE);
+            }
+        q->bare_fixed[a] = fixed;
+        q->bare_rate[a] = rate;
+        for (int b = 0; b < 8; b++) {
+            q->joined_fixed[a].at[b] = fixed.at[b] + q->join_fixed.at[a];
+            q->joined_rate[a].at[b] = rate.at[b] + q->join_rate.at[a];
+        }
+    }
 }
 
 int plain_load(plain_query *q, const uint8_t *file, size_t length)
 {
     reader r = {file, file + length, 0};
-    unsigned ends[8];
-    memset(q, 0, sizeof *q);
-    q->sites = (int)field(&r, 1, 2, 1, 8);
-    for (int k = 0; !r.refusal && k < q->sites; k++) {
-        q->may[k] = (uint8_t)field(&r, 1, 3, 0, 1);
-        q->join_fixed[k] = field(&r, 4, 3, 0, 1000000);
-        q->join_rate[k] = field(&r, 4, 3, 0, 1000);
-    }
-    q->relations = (int)field(&r, 1, 2, 1, 9);
-    for (int i = 0; !r.refusal && i < q->relations; i++) {
-        q->home[i] = (uint8_t)field(&r, 1, 3, 0, (uint64_t)q->sites - 1);
-        q->indexed[i] = (uint8_t)field(&r, 1, 3, 0, 1);
-    }
-    field(&r, 1, 2, (uint64_t)q->relations - 1, (uint64_t)q->relations - 1);
-    for (int e = 0; !r.refusal && e < q->relations - 1; e++) {
-        q->first[e] = (uint8_t)field(&r, 1, 3, 0, (uint64_t)q->relations - 1);
-        q->second[e] = (uint8_t)field(&r, 1, 3, 0, (uint64_t)q->relations - 1);
-    }
+    q->sites = field(&r, 1, 1, 8, COUNT);
+    read_sites(&r, q);
+    q->relations = field(&r, 1, 1, 9, COUNT);
+    read_relations(&r, q);
+    count(&r, 1, q->relations - 1);
+    read_joins(&r, q);
     if (r.refusal)
         return r.refusal;
-    unsigned all = (1u << q->relations) - 1;
-    if (grow(q, all, -1, 1) != all)
-        return 4;
-    for (int e = 0; e < q->relations - 1; e++)
-        ends[e] = ends_of(q, e);
-    uint16_t subquery[512];
-    for (unsigned set = 1; set <= all; set++)
-        if (is_subquery(q, ends, set, ones(set)))
-            subquery[q->subqueries++] = (uint16_t)set;
-    field(&r, 2, 2, (uint64_t)q->subqueries, (uint64_t)q->subqueries);
-    for (int i = 0; !r.refusal && i < q->subqueries; i++)
-        q->size[subquery[i]] = field(&r, 4, 3, 0, 1000000000);
-    field(&r, 1, 2, (uint64_t)(q->sites * (q->sites - 1)), (uint64_t)(q->sites * (q->sites - 1)));
-    for (int a = 0; a < q->sites; a++)
-        for (int b = 0; !r.refusal && b < q->sites; b++)
-            if (a != b) {
-                q->open[8 * a + b] = (uint8_t)field(&r, 1, 3, 0, 1);
-                q->line_fixed[8 * a + b] = field(&r, 4, 3, 0, 1000000);
-                q->line_rate[8 * a + b] = field(&r, 4, 3, 0, 1000);
-            }
-    field(&r, 1, 2, 1, 1);
-    q->target = (int)field(&r, 1, 3, 0, (uint64_t)q->sites - 1);
-    if (!r.refusal && r.at != r.end)
-        r.refusal = 5;
-    return r.refusal;
+    find_subqueries(q);
+    count(&r, 2, q->subqueries);
+    read_sizes(&r, q);
+    count(&r, 1, q->sites * (q->sites - 1));
+    read_lines(&r, q);
+    count(&r, 1, 1);
+    q->target = byte_below(&r, q->sites);
+    return r.refusal || r.at == r.end ? r.refusal : MORE;
 }
+
+/* ---- The tables */
+
+INLINED double lesser(double a, double b) { return a < b ? a : b; }
+
+/* A bare relation as an operand at each site. */
+INLINED void fill_bare(const plain_query *q, int r, plain_lanes *cell, int width)
+{
+    const plain_lanes *fixed = &q->bare_fixed[q->home[r]], *rate = &q->bare_rate[q->home[r]];
+    double size = (int)q->size[1u << r];
+    EACH_LANE(t) cell->at[t] = fixed->at[t] + rate->at[t] * size;
+    if (q->indexed[r])
+        cell->at[q->home[r]] = 0;
+}
+
+/* The least over the joins inside a set of both parts together, at each site. Answers how many joins were tried. */
+INLINED int try_joins(const plain_query *q, const plain_lanes *cells, uint32_t set, plain_lanes *least, int width)
+{
+    plain_lanes parts;
+    int tried = 0;
+    EACH_LANE(k) parts.at[k] = NONE;
+    for (uint32_t left = q->inner[set]; left; left &= left - 1, tried++) {
+        uint32_t beyond = set & q->below[__builtin_ctz(left)];
+        const plain_lanes *a = &cells[beyond], *b = &cells[set ^ beyond];
+        EACH_LANE(k) parts.at[k] = lesser(parts.at[k], a->at[k] + b->at[k]);
+    }
+    EACH_LANE(k) least->at[k] = parts.at[k];
+    return tried;
+}
+
+/* A subquery joined at any site as an operand at each site. */
+INLINED void deliver(const plain_query *q, const plain_lanes *parts, double size, plain_lanes *cell, int width)
+{
+    plain_lanes least;
+    EACH_LANE(t) least.at[t] = NONE;
+#pragma GCC unroll 2
+    for (int k = 0; k < q->sites; k++) {
+        const plain_lanes *fixed = &q->joined_fixed[k], *rate = &q->joined_rate[k];
+        double here = parts->at[k];
+        EACH_LANE(t) least.at[t] = lesser(least.at[t], rate->at[t] * size + fixed->at[t] + here);
+    }
+    EACH_LANE(t) cell->at[t] = least.at[t];
+}
+
+/* Every cell but that of all relations, of which one site is asked alone. Answers how many joins were tried, with its own. */
+INLINED int fill(const plain_query *q, plain_lanes *cells, int width)
+{
+    int tried = q->relations - 1;
+    for (int i = 0; i < q->subqueries - 1; i++) {
+        uint32_t set = q->subquery[i];
+        if (q->inner[set]) {
+            plain_lanes parts;
+            tried += try_joins(q, cells, set, &parts, width);
+            deliver(q, &parts, (int)q->size[set], &cells[set], width);
+        } else {
+            fill_bare(q, __builtin_ctz(set), &cells[set], width);
+        }
+    }
+    return tried;
+}
+
+/* ---- The plan */
 
 typedef struct {
-    const plain_query *q;
-    const uint64_t *cells;
-    unsigned side[8], ends[8];
-    int spared[9]; /* the site where the read of a relation is spared, 8 for none */
-} tables;
+    double cost, parts; /* as an operand where it is to go, and of both parts together where it is made */
+    int site;           /* where it is made */
+} choice;
 
-static int spared_at(const tables *t, unsigned set)
+/* The cheapest way to have a set at a site: made at the lowest site on a tie. */
+static choice cheapest(const plain_query *q, const plain_lanes *cells, uint32_t set, int to)
 {
-    return set & (set - 1) ? 8 : t->spared[__builtin_ctz(set)];
-}
-
-/* Joined of a set at each site. */
-static void joined_row(const tables *t, unsigned set, uint64_t row[8])
-{
-    const plain_query *q = t->q;
-    for (int k = 0; k < 8; k++)
-        row[k] = PLAIN_NONE;
-    for (int e = 0; e < q->relations - 1; e++) {
-        if ((set & t->ends[e]) != t->ends[e])
-            continue;
-        unsigned p = set & t->side[e], r = set ^ p;
-        const uint64_t *a = t->cells + 8 * p, *b = t->cells + 8 * r;
-        uint64_t size_p = q->size[p], size_r = q->size[r], size = q->size[set];
-        int spared_p = spared_at(t, p), spared_r = spared_at(t, r);
-        for (int k = 0; k < q->sites; k++) {
-            uint64_t bytes = (k == spared_p ? 0 : size_p) + (k == spared_r ? 0 : size_r) + size;
-            uint64_t c = a[k] + b[k] + q->join_fixed[k] + q->join_rate[k] * bytes;
-            if (c < row[k])
-                row[k] = c;
-        }
+    double size = (int)q->size[set];
+    if (q->inner[set] == 0) {
+        int home = q->home[__builtin_ctz(set)];
+        return (choice){q->bare_rate[home].at[to] * size + q->bare_fixed[home].at[to], 0, home};
     }
-    for (int k = 0; k < q->sites; k++)
-        if (!q->may[k])
-            row[k] = PLAIN_NONE;
+    plain_lanes parts;
+    choice best = {NONE, 0, 0};
+    try_joins(q, cells, set, &parts, 8);
+    for (int k = 0; k < q->sites; k++) {
+        double cost = q->joined_rate[k].at[to] * size + q->joined_fixed[k].at[to] + parts.at[k];
+        if (cost < best.cost)
+            best = (choice){cost, parts.at[k], k};
+    }
+    return best;
 }
 
-static uint64_t carriage(const plain_query *q, unsigned set, int k, int t)
+/* The join behind a choice: the lowest on a tie. */
+static int join_of(const plain_query *q, const plain_lanes *cells, uint32_t set, choice made)
 {
-    if (k == t)
-        return 0;
-    return q->open[8 * k + t] ? q->line_fixed[8 * k + t] + q->line_rate[8 * k + t] * q->size[set] : PLAIN_NONE;
+    for (int e = 0;; e++)
+        if (q->inner[set] >> q->lower[e] & 1) {
+            uint32_t beyond = set & q->below[q->lower[e]];
+            if (cells[beyond].at[made.site] + cells[set ^ beyond].at[made.site] == made.parts)
+                return e;
+        }
 }
 
-static size_t write_delivered(const tables *t, unsigned set, int to, uint8_t *out, size_t at)
+static uint8_t *step(uint8_t *out, int kind, int argument)
 {
-    const plain_query *q = t->q;
-    int from = 0;
-    if ((set & (set - 1)) == 0) {
-        int r = __builtin_ctz(set);
-        out[at++] = 1;
-        out[at++] = (uint8_t)r;
-        from = q->home[r];
+    out[0] = (uint8_t)kind;
+    out[1] = (uint8_t)argument;
+    return out + 2;
+}
+
+/* The steps that bring a set to a site, made as was chosen. Answers where they end. */
+static uint8_t *write_steps(const plain_query *q, const plain_lanes *cells, uint32_t set, int to, choice made, uint8_t *out)
+{
+    if (q->inner[set] == 0) {
+        out = step(out, LOAD, __builtin_ctz(set));
     } else {
-        uint64_t row[8], least = PLAIN_NONE;
-        joined_row(t, set, row);
-        for (int k = 0; k < q->sites; k++) {
-            uint64_t c = row[k] + carriage(q, set, k, to);
-            if (c < least) {
-                least = c;
-                from = k;
-            }
-        }
-        for (int e = 0; e < q->relations - 1; e++) {
-            if ((set & t->ends[e]) != t->ends[e])
-                continue;
-            unsigned p = set & t->side[e], r = set ^ p;
-            uint64_t bytes = (from == spared_at(t, p) ? 0 : q->size[p]) + (from == spared_at(t, r) ? 0 : q->size[r]) + q->size[set];
-            if (t->cells[8 * p + from] + t->cells[8 * r + from] + q->join_fixed[from] + q->join_rate[from] * bytes == row[from]) {
-                at = write_delivered(t, p, from, out, at);
-                at = write_delivered(t, r, from, out, at);
-                out[at++] = 3;
-                out[at++] = (uint8_t)e;
-                break;
-            }
-        }
+        int e = join_of(q, cells, set, made);
+        uint32_t one = set & q->below[q->lower[e]];
+        if (!(one >> q->first[e] & 1))
+            one ^= set;
+        out = write_steps(q, cells, one, made.site, cheapest(q, cells, one, made.site), out);
+        out = write_steps(q, cells, set ^ one, made.site, cheapest(q, cells, set ^ one, made.site), out);
+        out = step(out, JOIN, e);
     }
-    if (from != to) {
-        out[at++] = 2;
-        out[at++] = (uint8_t)to;
-    }
-    return at;
+    return made.site == to ? out : step(out, SEND, to);
 }
 
-plain_answer plain_solve(const plain_query *q, uint64_t cells[4096], uint8_t plan[69])
+plain_answer plain_solve(const plain_query *q, plain_lanes cells[512], uint8_t plan[69])
 {
-    unsigned all = (1u << q->relations) - 1;
-    tables t = {.q = q, .cells = cells};
-    plain_answer answer = {0, 0, 0};
-    for (int e = 0; e < q->relations - 1; e++) {
-        t.ends[e] = ends_of(q, e);
-        t.side[e] = grow(q, all, e, 1u << q->first[e]);
-    }
-    for (int r = 0; r < q->relations; r++)
-        t.spared[r] = q->indexed[r] ? q->home[r] : 8;
-    for (unsigned set = 1; set <= all; set++) {
-        int relations = ones(set);
-        if (relations == 1) {
-            for (int to = 0; to < q->sites; to++)
-                cells[8 * set + to] = carriage(q, set, q->home[__builtin_ctz(set)], to);
-            continue;
-        }
-        if (!is_subquery(q, t.ends, set, relations))
-            continue;
-        answer.trials += (uint64_t)relations - 1;
-        uint64_t row[8];
-        joined_row(&t, set, row);
-        for (int to = 0; to < q->sites; to++) {
-            uint64_t least = PLAIN_NONE;
-            for (int k = 0; k < q->sites; k++) {
-                uint64_t c = row[k] + carriage(q, set, k, to);
-                if (c < least)
-                    least = c;
-            }
-            cells[8 * set + to] = least;
-        }
-    }
-    answer.trials *= (uint64_t)q->sites;
-    answer.cost = cells[8 * all + q->target];
-    if (answer.cost < PLAIN_NONE) {
-        answer.length = write_delivered(&t, all, q->target, plan, 1);
+    uint32_t all = (1u << q->relations) - 1;
+    int tried = q->sites <= 4 ? fill(q, cells, 4) : fill(q, cells, 8);
+    plain_answer answer = {PLAIN_NONE, (uint64_t)(tried * q->sites), 0};
+    choice made = cheapest(q, cells, all, q->target);
+    if (made.cost < NONE) {
+        answer.cost = (uint64_t)(made.cost - q->join_rate.at[q->target] * q->size[all]);
+        answer.length = (size_t)(write_steps(q, cells, all, q->target, made, plan + 1) - plan);
         plan[0] = (uint8_t)(answer.length / 2);
     }
     return answer;
@@ -238,16 +347,16 @@ plain_answer plain_solve(const plain_query *q, uint64_t cells[4096], uint8_t pla
 uint64_t plain_plan(const uint8_t *query, size_t query_length, uint8_t *output, size_t output_length)
 {
     plain_query q;
-    uint64_t cells[4096];
+    plain_lanes cells[512];
     uint8_t plan[69];
     int refusal = plain_load(&q, query, query_length);
     if (refusal)
-        return 256 + (uint64_t)refusal;
+        return REFUSED + (uint64_t)refusal;
     plain_answer a = plain_solve(&q, cells, plan);
-    if (a.cost >= PLAIN_NONE)
+    if (a.cost == PLAIN_NONE)
         return 0;
     if (output_length < a.length)
-        return 256 + 23;
+        return REFUSED + SHORT;
     memcpy(output, plan, a.length);
     return a.length;
 }

@@ -1,15 +1,27 @@
-/* A plain C planner of the same two tables, to measure beside. It checks the file as the product does. */
+/* The same planner in C, written to win: what the product is measured beside. It refuses and answers as the product does. */
 #ifndef PLAIN_H
 #define PLAIN_H
 
 #include <stddef.h>
 #include <stdint.h>
 
+/* A figure for each site, always eight; nobody looks at those of sites that the query does not have. */
 typedef struct {
-    int sites, relations, target;
-    uint8_t may[8], home[9], indexed[9], first[8], second[8], open[64];
-    uint64_t join_fixed[8], join_rate[8], size[512], line_fixed[64], line_rate[64];
-    int subqueries;
+    _Alignas(64) double at[8];
+} plain_lanes;
+
+typedef struct {
+    int sites, relations, subqueries, target;
+    uint8_t home[9], indexed[9];
+    uint8_t first[8], lower[8]; /* of each join: its first relation, and the one that hangs from the other */
+    uint8_t above[9];           /* the relation that each one hangs from; relation 0 hangs from none */
+    uint32_t below[9];          /* the relations that hang from each one, itself among them */
+    uint16_t subquery[264];     /* ascending */
+    uint16_t inner[512];        /* of each subquery: its relations that hang from one of its relations */
+    uint32_t size[512];         /* of each subquery */
+    plain_lanes join_fixed, join_rate;
+    plain_lanes bare_fixed[8], bare_rate[8];     /* what a relation of this home costs at each site: line and read */
+    plain_lanes joined_fixed[8], joined_rate[8]; /* what a result joined here costs at each site: join, line and read */
 } plain_query;
 
 typedef struct {
@@ -18,11 +30,11 @@ typedef struct {
     size_t length;
 } plain_answer;
 
-#define PLAIN_NONE ((uint64_t)1 << 60)
+#define PLAIN_NONE UINT64_MAX
 
 /* 0, or the refusal's number. */
 int plain_load(plain_query *q, const uint8_t *file, size_t length);
-plain_answer plain_solve(const plain_query *q, uint64_t cells[4096], uint8_t plan[69]);
+plain_answer plain_solve(const plain_query *q, plain_lanes cells[512], uint8_t plan[69]);
 uint64_t plain_plan(const uint8_t *query, size_t query_length, uint8_t *output, size_t output_length);
 
 #endif

@@ -1,26 +1,92 @@
 #!/usr/bin/env bash
-# Builds the benchmark and runs it; with `growth` it also writes docs/GROWTH.md and docs/growth.svg anew.
+# Builds the benchmark and runs it.
+#   run.sh                      the product beside the C of plain.c
+#   run.sh growth               the same; then docs/GROWTH.md and docs/growth.svg are written anew
+#   run.sh before REV           beside the archives of an earlier revision, all in turns in one run
+#   run.sh compare COUNT SEED   random queries, on which the product and the C must answer alike
 set -euo pipefail
 cd "$(dirname "$0")/.."
 out=target/bench
-rt staticlib fanchuki >/dev/null
-rt staticlib timed >/dev/null
+bench=$out/bench
 mkdir -p "$out"
-gcc -O2 -Wall -Wextra -Ibench -c bench/plain.c -o "$out/plain.o"
-gcc -O3 -march=native -Ibench -Dplain_load=fast_load -Dplain_solve=fast_solve -Dplain_plan=fast_plan -c bench/plain.c -o "$out/fast.o"
-gcc -O2 -Wall -Wextra -Iinclude -Ibench bench/bench.c "$out/plain.o" "$out/fast.o" -Ltarget/staticlib -ltimed -lfanchuki -o "$out/bench"
-"$out/bench" | tee "$out/shapes.txt"
-if command -v valgrind >/dev/null; then
-    count() { # SHAPE WORK FUNCTION: the instructions of a hundred
-        valgrind --tool=callgrind --callgrind-out-file="$out/cg.out" --toggle-collect="$3" "$out/bench" hundred "$1" "$2" 2>&1 | sed -n 's/.*refs: *\([0-9,]*\).*/\1/p'
-    }
-    printf '\n%-27s %14s %14s\n' "instructions of a hundred" product "C -O2"
-    for shape in star chain tree; do
-        printf '%-6s %-20s %14s %14s\n' $shape solve "$(count $shape solve fanchuki_solves)" "$(count $shape solve plain_solve)"
-        printf '%-6s %-20s %14s %14s\n' $shape "load, solve, read" "$(count $shape call fanchuki_plan)" "$(count $shape call plain_plan)"
+
+# Proves and builds the archives of the repository in FOLDER; an early one may have no crate timed.
+archives() { # FOLDER
+    for name in fanchuki timed; do
+        [ -d "$1/crates/$name" ] || continue
+        (cd "$1" && rt staticlib $name) >"$out/staticlib.txt" 2>&1 || { cat "$out/staticlib.txt"; exit 1; }
     done
-fi | tee -a "$out/shapes.txt"
-if [ "${1:-}" = growth ]; then
-    "$out/bench" growth >"$out/growth.txt"
-    python3 bench/growth.py <"$out/growth.txt"
-fi
+}
+
+build() { # further words for the linker
+    gcc -O2 -Wall -Wextra -Ibench -c bench/plain.c -o "$out/plain.o"
+    gcc -O3 -march=native -Ibench -Dplain_load=fast_load -Dplain_solve=fast_solve -Dplain_plan=fast_plan -c bench/plain.c -o "$out/fast.o"
+    gcc -O2 -Wall -Wextra -Iinclude -Ibench bench/bench.c bench/queries.c "$out/plain.o" "$out/fast.o" -Ltarget/staticlib -ltimed -lfanchuki "$@" -o "$bench"
+}
+
+# Builds the archives of REV by its own sources, once, and renames what they export, so that both link into one program.
+build_before() { # REV
+    local rev was
+    rev=$(git rev-parse --verify --quiet "$1^{commit}") || { echo "run.sh: no revision $1" >&2; exit 2; }
+    was=$out/before/$rev
+    if [ ! -f "$was/built" ]; then
+        rm -rf "$was" && mkdir -p "$was"
+        git archive "$rev" | tar -x -C "$was"
+        archives "$was"
+        touch "$was/built"
+    fi
+    set --
+    for name in fanchuki timed; do
+        [ -f "$was/target/staticlib/lib$name.a" ] || continue
+        objcopy --redefine-sym fanchuki_plan=before_plan --redefine-sym fanchuki_solves=before_solves "$was/target/staticlib/lib$name.a" "$out/before/lib$name.a"
+        set -- "$@" "$out/before/lib$name.a"
+    done
+    build -Wl,--whole-archive "$@" -Wl,--no-whole-archive
+}
+
+count() { # PLANNER WORK SHAPE N S: the instructions of one
+    local inside=$1_plan
+    [ "$2" = call ] || inside=$1_solves
+    valgrind --tool=callgrind --callgrind-out-file=/dev/null --toggle-collect="$inside" "$bench" hundred "$@" 2>&1 </dev/null |
+        sed -n 's/.*refs: *\([0-9,]*\).*/\1/p' | tr -d ,
+}
+
+# A row for each shape and work, a column for each planner, and the first planner's ratio to the second.
+counts() { # PLANNER..
+    command -v valgrind >/dev/null || return 0
+    printf '\n%-29s' "instructions"
+    printf '%10s' "$@" ratio
+    printf '\n'
+    "$bench" shapes | while read -r shape n s; do
+        for work in solve call; do
+            for planner in "$@"; do count "$planner" $work "$shape" "$n" "$s"; done |
+                awk -v row="$(printf '%-6s %dx%d %s' "$shape" "$n" "$s" "$work")" '
+                    { one[NR] = $1 / 100 }
+                    END {
+                        printf "%-29s", row
+                        for (i = 1; i <= NR; i++) printf "%10d", one[i]
+                        printf "%10s\n", one[2] ? sprintf("%.3f", one[1] / one[2]) : "-"
+                    }'
+        done
+    done
+}
+
+archives .
+case ${1:-} in
+compare)
+    build
+    "$bench" "$@"
+    ;;
+before)
+    build_before "${2:?the revision to measure beside}"
+    { "$bench" before && counts fanchuki before plain; } | tee "$out/before.txt"
+    ;;
+*)
+    build
+    { "$bench" && counts fanchuki plain; } | tee "$out/shapes.txt"
+    if [ "${1:-}" = growth ]; then
+        "$bench" growth >"$out/growth.txt"
+        python3 bench/growth.py <"$out/growth.txt"
+    fi
+    ;;
+esac

@@ -1,0 +1,183 @@
+#include "queries.h"
+
+#include <string.h>
+
+static uint64_t state;
+
+void seed(uint64_t s)
+{
+    state = s;
+}
+
+uint64_t below(uint64_t limit)
+{
+    state = state * 6364136223846793005u + 1442695040888963407u;
+    return (state >> 33) % limit;
+}
+
+/* Amounts are drawn from least to below least + span. */
+typedef struct {
+    uint64_t least, span;
+} amounts;
+
+typedef struct {
+    int sites, relations, first[8], second[8];
+    amounts fixed, rate, size;
+    uint64_t barred, closed; /* one site in so many may not join, one line in so many is closed; 0: none */
+} draft;
+
+static void put(query_file *f, int width, uint64_t v)
+{
+    while (width-- > 0) {
+        f->bytes[f->length++] = (uint8_t)v;
+        v >>= 8;
+    }
+}
+
+static void put_amount(query_file *f, amounts a)
+{
+    put(f, 4, a.least + below(a.span));
+}
+
+static void put_terms(query_file *f, const draft *d, uint64_t one_in)
+{
+    put(f, 1, one_in == 0 || below(one_in) != 0);
+    put_amount(f, d->fixed);
+    put_amount(f, d->rate);
+}
+
+/* The relations of a set, where the set is connected: a tree's part with one join less than relations. Else 0. */
+static int connected(const draft *d, unsigned set)
+{
+    int joins = 0, relations = __builtin_popcount(set);
+    for (int e = 0; e < d->relations - 1; e++)
+        joins += (set >> d->first[e] & 1) && (set >> d->second[e] & 1);
+    return joins + 1 == relations ? relations : 0;
+}
+
+static void write_query(query_file *f, const draft *d)
+{
+    unsigned count = 0;
+    f->length = 0;
+    put(f, 1, (uint64_t)d->sites);
+    for (int k = 0; k < d->sites; k++)
+        put_terms(f, d, d->barred);
+    put(f, 1, (uint64_t)d->relations);
+    for (int r = 0; r < d->relations; r++) {
+        put(f, 1, below((uint64_t)d->sites));
+        put(f, 1, below(2));
+    }
+    put(f, 1, (uint64_t)d->relations - 1);
+    for (int e = 0; e < d->relations - 1; e++) {
+        put(f, 1, (uint64_t)d->first[e]);
+        put(f, 1, (uint64_t)d->second[e]);
+    }
+    for (unsigned set = 1; set < 1u << d->relations; set++)
+        count += connected(d, set) != 0;
+    put(f, 2, count);
+    for (unsigned i = 0; i < count; i++)
+        put_amount(f, d->size);
+    put(f, 1, (uint64_t)(d->sites * (d->sites - 1)));
+    for (int i = 0; i < d->sites * (d->sites - 1); i++)
+        put_terms(f, d, d->closed);
+    put(f, 1, 1);
+    put(f, 1, below((uint64_t)d->sites));
+}
+
+/* Joins each relation to an earlier one. */
+static void draw_joins(draft *d, const char *shape)
+{
+    for (int r = 1; r < d->relations; r++) {
+        d->first[r - 1] = strcmp(shape, "chain") == 0 ? r - 1 : strcmp(shape, "star") == 0 ? 0 : (int)below((uint64_t)r);
+        d->second[r - 1] = r;
+    }
+}
+
+static draft shaped(const char *shape, int relations, int sites)
+{
+    draft d = {.sites = sites, .relations = relations, .fixed = {0, 1000000}, .rate = {0, 1000}, .size = {0, 1000000}, .closed = 8};
+    seed(5); /* a tree that branches */
+    draw_joins(&d, shape);
+    return d;
+}
+
+void shaped_query(query_file *f, const char *shape, int relations, int sites)
+{
+    draft d = shaped(shape, relations, sites);
+    write_query(f, &d);
+}
+
+uint64_t shaped_trials(const char *shape, int relations, int sites)
+{
+    draft d = shaped(shape, relations, sites);
+    int trials = 0;
+    for (unsigned set = 1; set < 1u << relations; set++)
+        if (connected(&d, set))
+            trials += connected(&d, set) - 1;
+    return (uint64_t)(trials * sites);
+}
+
+static void swap(int *a, int *b)
+{
+    int was = *a;
+    *a = *b;
+    *b = was;
+}
+
+/* The same tree with its relations, its joins and their ends in any order. */
+static void mix(draft *d)
+{
+    int name[9], joins = d->relations - 1;
+    for (int r = 0; r < d->relations; r++) {
+        name[r] = r;
+        swap(&name[r], &name[below((uint64_t)r + 1)]);
+    }
+    for (int e = 0; e < joins; e++) {
+        int f = (int)below((uint64_t)e + 1);
+        d->first[e] = name[d->first[e]];
+        d->second[e] = name[d->second[e]];
+        swap(&d->first[e], &d->first[f]);
+        swap(&d->second[e], &d->second[f]);
+        if (below(2))
+            swap(&d->first[e], &d->second[e]);
+    }
+}
+
+/* Few values, so that sums tie; any value; or none but the greatest. */
+static amounts any_amounts(uint64_t most)
+{
+    switch (below(6)) {
+    case 0: return (amounts){most, 1};
+    case 1: return (amounts){0, most + 1};
+    case 2: return (amounts){most - 2, 3};
+    default: return (amounts){0, 1 + below(4)};
+    }
+}
+
+void random_query(query_file *f)
+{
+    static const char *const shapes[] = {"chain", "star", "tree", "tree"};
+    draft d = {.sites = 1 + (int)below(8), .relations = 1 + (int)below(9), .barred = below(12), .closed = below(12)};
+    d.fixed = any_amounts(1000000);
+    d.rate = any_amounts(1000);
+    d.size = any_amounts(1000000000);
+    draw_joins(&d, shapes[below(4)]);
+    mix(&d);
+    write_query(f, &d);
+}
+
+void damage(query_file *f)
+{
+    if (f->length == 0)
+        return;
+    size_t at = below(1 + below(f->length));
+    uint8_t *byte = &f->bytes[at];
+    switch (below(6)) {
+    case 0: *byte = (uint8_t)below(256); break;
+    case 1: *byte = (uint8_t)(*byte + 1); break;
+    case 2: *byte = (uint8_t)(*byte - 1); break;
+    case 3: *byte = f->bytes[below(f->length)]; break;
+    case 4: f->length = at; break;
+    default: put(f, 1 + (int)below(8), below(256));
+    }
+}

@@ -1,0 +1,32 @@
+/* Query files to measure and to compare on. */
+#ifndef QUERIES_H
+#define QUERIES_H
+
+#include <stddef.h>
+#include <stdint.h>
+
+#include "fanchuki.h"
+
+typedef struct {
+    uint8_t bytes[FANCHUKI_LONGEST_QUERY + 16];
+    size_t length;
+} query_file;
+
+/* A number below the limit, the same row of them after each seed. */
+void seed(uint64_t s);
+uint64_t below(uint64_t limit);
+
+/* A star, a chain or a tree that branches; always the same one for a shape, a number of relations and of sites. */
+void shaped_query(query_file *f, const char *shape, int relations, int sites);
+
+/* Trials of solve on a shaped query. */
+uint64_t shaped_trials(const char *shape, int relations, int sites);
+
+/* Any query: any tree in any order, small amounts that tie or amounts at their limits, closed lines, sites that may not
+ * join, indexes. */
+void random_query(query_file *f);
+
+/* One change somewhere, more often near the front. */
+void damage(query_file *f);
+
+#endif
