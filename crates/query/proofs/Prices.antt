@@ -1,10 +1,11 @@
 -- The prices' limits and laws. Each price is one fixed amount and one rate times a size, and a valid query limits both.
-use Prim.Native.Nat.{ℕ, _+_, _*_, _≤_, zero-le}
+use Prim.Native.Nat.{ℕ, _+_, _-_, _*_, _%_, _^_, _≤_, zero-le}
 use native.Mathlib.Nat.{mul-le-mul, mul-le-mul-left, mul-le-mul-right, add-comm, le-refl}
 use native.Mathlib.Omega.{arith}
-use mathlib.Core.Path.{_≡_, refl}
+use mathlib.Core.Path.{_≡_, refl, _∙_}
 use mathlib.Core.Bool.{Bool, true, false}
 use mathlib.Core.Logic.{_⊎_, inl, inr}
+use lib.Bits.{bitAnd, and-zero-r, and-le-l, and-mask}
 use lib.Dec.{eqb}
 use mir.Syntax.{w64}
 use mir.Val.{Fits}
@@ -15,18 +16,43 @@ use Rattle.query.specs.Choice.{pick}
 use Rattle.query.specs.Cost.{none, some}
 use Rattle.query.specs.Query.{Valid, joinFixed, joinRate, isOpen, lineFixed, lineRate, size}
 use Rattle.query.specs.Prices.{linePrice, carriage, read, reads, joinPrice, dearestCarriage}
+use Rattle.query.specs.Masks.{countedMask, IsMask}
 use Rattle.query.specs.Theorems.{LineMost, JoinMost, ReadsEither}
 
 -- A fixed amount and a rate times a size, each up to its limit.
 pub priced-most : (f r x F R X : ℕ) → f ≤ F → r ≤ R → x ≤ X → f + r * x ≤ F + R * X
 priced-most f r x F R X a b c = omega (arith, mul-le-mul b c)
 
--- A rate up to 1,000 times a size up to 3,000,000,000 fits 64 bits.
-pub product-fits : (r x : ℕ) → r ≤ 1000 → x ≤ 3000000000 → Fits w64 (r * x)
-product-fits r x a b = record { fits = omega (arith, mul-le-mul a b) }
+-- A rate up to 1,000 times a size up to 3,000,000,000: their short product is the product, and fits 64 bits.
+pub short-fits : (r x : ℕ) → r ≤ 1000 → x ≤ 3000000000 → Fits w64 ((r % 4294967296) * (x % 4294967296))
+short-fits r x a b =
+    let f : r % 4294967296 ≡ r = omega arith in
+    let g : x % 4294967296 ≡ x = omega arith in
+    rw (f, g) (record { fits = omega (arith, mul-le-mul a b) })
 
-pub product-most : (r x : ℕ) → r ≤ 1000 → r * x ≤ 1000 * x
-product-most r x a = mul-le-mul-right x a
+pub short-is : (r x : ℕ) → r ≤ 1000 → x ≤ 3000000000 →
+    ((r % 4294967296) * (x % 4294967296) ≡ r * x) × ((r % 4294967296) * (x % 4294967296) ≤ 1000 * x)
+short-is r x a b =
+    let f : r % 4294967296 ≡ r = omega arith in
+    let g : x % 4294967296 ≡ x = omega arith in
+    rw (f, g) (refl, mul-le-mul-right x a)
+
+-- A mask takes all of a size of at most 32 bits, or nothing.
+pub masked : (m x : ℕ) → IsMask m → x ≤ 1000000000 → (bitAnd x m ≡ read (eqb m 0) x) × (bitAnd x m ≤ x)
+unfolding read
+masked m x (inl e) h = rw e (and-zero-r x, and-le-l x 0)
+masked m x (inr e) h =
+    let f : bitAnd x (2 ^ 32 - 1) ≡ x = and-mask x 32 ∙ (omega arith) in
+    rw e (f, and-le-l x (2 ^ 32 - 1))
+
+-- The mask of a read, and what it says.
+pub mask-is : (b : Bool) (m : ℕ) → m ≡ countedMask b → IsMask m
+mask-is true m e = inl e
+mask-is false m e = inr e
+
+pub mask-spares : (b : Bool) (m : ℕ) → m ≡ countedMask b → eqb m 0 ≡ b
+mask-spares true m e = rw e
+mask-spares false m e = rw e
 
 pub line-most : LineMost
 unfolding linePrice lineFixed lineRate size

@@ -6,4 +6,5 @@ pub mod Code
 pub mod Query
 pub mod Prices
 pub mod Indexed
+pub mod Masks
 pub mod Theorems

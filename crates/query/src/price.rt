@@ -1,43 +1,53 @@
-// The prices. Only these functions turn bytes into charge units.
+// The prices. Only these functions turn bytes into charge units. The checker and the solver both use them.
 use crate::Bytes;
 use crate::Charge;
 ghost use mathlib.Core.Path.{_≡_};
-ghost use Prim.Native.Nat.{_+_, _*_, _≤_, _<_};
+ghost use Prim.Native.Nat.{_+_, _*_, _^_, _≤_, _<_};
+ghost use lib.Dec.{eqb};
 ghost use lib.ListN.{length};
 ghost use Rattle.query.specs.Prices.{read, reads};
 ghost use Rattle.query.specs.Indexed.{indexedIn};
+ghost use Rattle.query.specs.Masks.{countedMask, IsMask};
 
-// A rate times a size: all that a line or a join charges beyond its fixed amount.
-pub fn rated(rate: u64, size: Bytes) -> Charge
+// The mask of a read that counts; that of a spared read is 0.
+const COUNTS: u64 = 4294967295;
+
+// A rate times a size: all that a line or a join charges beyond its fixed amount. Both have at most 32 bits: a short product.
+fn rated(rate: u64, size: Bytes) -> Charge
     requires { ⌜ (rate ≤ 1000) × (size .0 ≤ 3000000000) ⌝ }
     ensures { λ r. ⌜ (r .0 ≡ rate * size .0) × (r .0 ≤ 1000 * size .0) ⌝ }
 {
-    Charge(rate * size.0)
+    Charge((rate % 4294967296) * (size.0 % 4294967296))
 }
 
 // The price of a line for what is sent: line fixed + line rate × size.
 pub fn line_price(fixed: Charge, rate: u64, size: Bytes) -> Charge
-    requires { ⌜ (fixed .0 ≤ 1000000) × ((rate ≤ 1000) × (size .0 ≤ 1000000000)) ⌝ }
-    ensures { λ r. ⌜ (r .0 ≡ fixed .0 + rate * size .0) × (r .0 ≤ 1000001000000) ⌝ }
+    requires { ⌜ (fixed .0 ≤ 2 ^ 60) × ((rate ≤ 1000) × (size .0 ≤ 1000000000)) ⌝ }
+    ensures { λ r. ⌜ (r .0 ≡ fixed .0 + rate * size .0) × (r .0 ≤ fixed .0 + 1000000000000) ⌝ }
 {
     let sent = rated(rate, size);
     Charge(fixed.0 + sent.0)
 }
 
-// The read of an operand: its size, spared where it is read by its index.
-pub fn read(spared: bool, size: Bytes) -> Bytes
-    ensures { λ r. ⌜ (r .0 ≡ read spared (size .0)) × (r .0 ≤ size .0) ⌝ }
+// The mask of an operand's read.
+pub fn mask(spared: bool) -> u64
+    ensures { λ r. ⌜ r ≡ countedMask spared ⌝ }
 {
-    if spared {
-        return Bytes(0);
-    }
-    size
+    if spared { 0 } else { COUNTS }
 }
 
-// The reads of a join's two operands.
-pub fn reads(a: bool, x: Bytes, b: bool, y: Bytes) -> Bytes
-    requires { ⌜ (x .0 ≤ 1000000000) × (y .0 ≤ 1000000000) ⌝ }
-    ensures { λ r. ⌜ (r .0 ≡ reads a (x .0) b (y .0)) × (r .0 ≤ 2000000000) ⌝ }
+// The read of an operand: its size, spared where its mask is 0.
+fn read(counted: u64, size: Bytes) -> Bytes
+    requires { ⌜ IsMask counted × (size .0 ≤ 1000000000) ⌝ }
+    ensures { λ r. ⌜ (r .0 ≡ read (eqb counted 0) (size .0)) × (r .0 ≤ size .0) ⌝ }
+{
+    Bytes(size.0 & counted)
+}
+
+// The reads of a join's two operands, each with its mask.
+pub fn reads(a: u64, x: Bytes, b: u64, y: Bytes) -> Bytes
+    requires { ⌜ (IsMask a × (x .0 ≤ 1000000000)) × (IsMask b × (y .0 ≤ 1000000000)) ⌝ }
+    ensures { λ r. ⌜ (r .0 ≡ reads (eqb a 0) (x .0) (eqb b 0) (y .0)) × (r .0 ≤ 2000000000) ⌝ }
 {
     let one = read(a, x);
     let other = read(b, y);
@@ -46,8 +56,8 @@ pub fn reads(a: bool, x: Bytes, b: bool, y: Bytes) -> Bytes
 
 // The price of a join: join fixed + join rate × (reads + size of the result).
 pub fn join_price(fixed: Charge, rate: u64, reads: Bytes, result: Bytes) -> Charge
-    requires { ⌜ (fixed .0 ≤ 1000000) × ((rate ≤ 1000) × ((reads .0 ≤ 2000000000) × (result .0 ≤ 1000000000))) ⌝ }
-    ensures { λ r. ⌜ (r .0 ≡ fixed .0 + rate * (reads .0 + result .0)) × (r .0 ≤ 3000001000000) ⌝ }
+    requires { ⌜ (fixed .0 ≤ 2 ^ 60) × ((rate ≤ 1000) × ((reads .0 ≤ 2000000000) × (result .0 ≤ 1000000000))) ⌝ }
+    ensures { λ r. ⌜ (r .0 ≡ fixed .0 + rate * (reads .0 + result .0)) × (r .0 ≤ fixed .0 + 3000000000000) ⌝ }
 {
     let work = rated(rate, Bytes(reads.0 + result.0));
     Charge(fixed.0 + work.0)

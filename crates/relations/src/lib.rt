@@ -15,7 +15,6 @@ pub use subquery::ends;
 pub use table::is_connected;
 pub use table::join_table;
 pub use table::joins_in;
-pub use table::relations_in;
 pub use tree::reaches;
 pub use tree::sides;
 

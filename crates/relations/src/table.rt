@@ -84,13 +84,6 @@ pub fn join_table(joins: Joins) -> [u32; 512]
     table
 }
 
-// How many relations the set of an entry holds.
-pub fn relations_in(entry: u32) -> usize
-    ensures { λ r. ⌜ r ≡ entry / 65536 ⌝ }
-{
-    (entry / RELATION) as usize
-}
-
 // The joins in the set of an entry, as a set of joins.
 pub fn joins_in(entry: u32) -> usize
     ensures { λ r. ⌜ r ≡ entry % 256 ⌝ }

@@ -5,6 +5,7 @@ use mathlib.Core.Bool.{Bool, _&&_}
 use mathlib.Core.List.{List}
 use native.Mathlib.Omega.{arith}
 use lib.ListN.{length, getD, List·getD-eq-default}
+use lib.Dec.{eqb}
 use lib.Pow.{pow-mono}
 use mir.Syntax.{w64}
 use mir.Val.{Fits}
@@ -13,6 +14,8 @@ use Rattle.query.specs.declared.Query.{Query}
 use Rattle.query.specs.Query.{UpTo, home, index, lineFixed, lineRate, size, joinFixed, joinRate}
 use Rattle.query.specs.Prices.{linePrice, reads, joinPrice, indexed}
 use Rattle.query.specs.Indexed.{indexedIn}
+use Rattle.query.specs.Masks.{countedMask}
+use Rattle.query.proofs.Prices.{mask-spares}
 use Rattle.query.proofs.Indexed.{indexed-in}
 use Rattle.rules.specs.declared.Origin.the-variants.{Sent, Joined}
 use Rattle.rules.specs.declared.Listed.{Listed}
@@ -22,6 +25,12 @@ use Rattle.rules.specs.Code.{ofRelations, ofSites, ofListed}
 
 pub up-to : (limit : ℕ) (l : List ℕ) (i v : ℕ) → UpTo limit l → v ≡ getD l i 0 → v ≤ limit
 up-to limit l i v h e = omega (arith, h i)
+
+pub amount-low : (l : List ℕ) (i v : ℕ) → UpTo 1_000_000 l → v ≡ getD l i 0 → v ≤ 2 ^ 60
+amount-low l i v h e = omega (arith, h i)
+
+pub sent-fits : (l : List ℕ) (i f p g : ℕ) → UpTo 1_000_000 l → f ≡ getD l i 0 → p ≤ f + 1000000000000 → g < 2 ^ 62 → Fits w64 (g + p)
+sent-fits l i f p g h e m low = record { fits = omega (arith, h i) }
 
 pub past-end : (l : List ℕ) (i : ℕ) → length l ≤ i → 0 ≡ getD l i 0
 past-end l i h = sym (List·getD-eq-default l 0 h)
@@ -42,10 +51,10 @@ sent-is q h t f r z p e1 e2 e3 e4 = rw (e4, e1, e2, e3)
 pub sum-fits : (a b n : ℕ) → n ≤ 9 → a + b < 2 ^ n → Fits w64 (a + b)
 sum-fits a b n l h = record { fits = omega (arith, pow-mono l) }
 
-pub join-price-is : (q : Query) (k : ℕ) (s : Bool) (a : ℕ) (t : Bool) (b f r x y z g p : ℕ) → x ≡ size q a → y ≡ size q b → z ≡ size q (a + b) → f ≡ joinFixed q k →
-    r ≡ joinRate q k → g ≡ reads s x t y → p ≡ f + r * (g + z) → p ≡ joinPrice q k s a t b
+pub join-price-is : (q : Query) (k : ℕ) (s : Bool) (a : ℕ) (t : Bool) (b m n f r x y z g p : ℕ) → m ≡ countedMask s → n ≡ countedMask t → x ≡ size q a → y ≡ size q b → z ≡ size q (a + b) →
+    f ≡ joinFixed q k → r ≡ joinRate q k → g ≡ reads (eqb m 0) x (eqb n 0) y → p ≡ f + r * (g + z) → p ≡ joinPrice q k s a t b
 unfolding joinPrice
-join-price-is q k s a t b f r x y z g p e1 e2 e3 e4 e5 e6 e7 = e7 ∙ rw (e6, e1, e2, e3, e4, e5)
+join-price-is q k s a t b m n f r x y z g p e8 e9 e1 e2 e3 e4 e5 e6 e7 = e7 ∙ rw (e6, mask-spares s m e8, mask-spares t n e9, e1, e2, e3, e4, e5)
 
 -- The reads look at the relations, the price at the sites and the sizes.
 pub joined-is : (l : Listed) (sizes : List ℕ) (a b : Held) (x y : Bool) (c p : ℕ) → x ≡ spared (ofRelations (l .relations)) a →

@@ -32,6 +32,14 @@ fn size_at(sizes: &[u64], set: usize) -> Bytes
     Bytes(at(sizes, set))
 }
 
+// The fixed amount of joining at a site.
+fn fixed_at(fixed: &[u64], site: usize) -> Charge
+    requires { ⌜ (UpTo 1000000 (now fixed)) ⌝ }
+    ensures { λ r. ⌜ (r .0 ≡ getD (now (fixed .entry)) site 0) × (r .0 ≤ 1000000) ⌝ }
+{
+    Charge(at(fixed, site))
+}
+
 // The number that a list over all lines has for the line from a to b.
 pub(crate) fn line_at(list: &[u64], a: usize, b: usize) -> u64
     requires { ⌜ (length (now list) ≡ 64) × (b < 8) ⌝ }
@@ -98,9 +106,14 @@ fn join_price(
     requires { ⌜ Amounts (now sizes) (sites .fixed) (sites .rate) × (a + b < 512) ⌝ }
     ensures { λ r. ⌜ (r .0 ≡ joinPrice (ofSites sites (now (sizes .entry))) site one a other b) × (r .0 ≤ dearestJoin) ⌝ }
 {
-    let read = price::reads(one, size_at(sizes, a), other, size_at(sizes, b));
+    let read = price::reads(
+        price::mask(one),
+        size_at(sizes, a),
+        price::mask(other),
+        size_at(sizes, b),
+    );
     let result = size_at(sizes, a + b);
-    let fixed = Charge(at(&sites.fixed, site));
+    let fixed = fixed_at(&sites.fixed, site);
     let rate = at(&sites.rate, site);
     price::join_price(fixed, rate, read, result)
 }

@@ -1,82 +1,106 @@
--- The cell of all relations at the query site is what the query costs with the reading of its result: it is below the figure of none exactly where there
--- is a way, and the answer follows.
-use Prim.Native.Nat.{ℕ, _+_, _-_, _*_, _^_, _≤_, _<_}
+-- The cell of all relations at the query site is what the query costs: it is below the figure of none exactly where there is a way, and the answer
+-- follows.
+use Prim.Native.Nat.{ℕ, _+_, _*_, _^_, _≤_, _<_}
 use native.Mathlib.Nat.{mul-le-mul}
 use native.Mathlib.Omega.{arith}
-use mathlib.Core.Path.{_≡_, refl, ap, _∙_}
+use mathlib.Core.Path.{_≡_, refl, sym, ap, subst, _∙_}
 use mathlib.Core.List.{List, _++_}
 use lib.ListN.{length, getD, drop}
 use lib.Pow.{pow-mono}
-use lib.Dec.{eqb}
 use Rattle.relations.specs.Sets.{all}
+use Rattle.relations.specs.Trees.{Tree}
+use Rattle.relations.specs.Code.{Drawn}
+use Rattle.relations.specs.Table.{TableOf}
 use Rattle.relations.proofs.Bits.{all-below}
 use Rattle.relations.proofs.Subqueries.{subqueries-law}
 use Rattle.query.specs.declared.Query.{Query}
 use Rattle.query.specs.Query.{Valid, relationsOf, sitesOf}
-use Rattle.query.specs.Cost.{Cost, none, some, plus}
-use Rattle.query.specs.Prices.{read}
-use Rattle.solver.specs.declared.solving.Solved.the-variants.{Found, NoRoute}
-use Rattle.tables.specs.Tables.{cheapest, joinsBelow}
+use Rattle.query.specs.Cost.{Cost, none, some}
+use Rattle.rules.specs.Combine.{Combines}
+use Rattle.rules.proofs.Combinations.{plus-combines}
+use Rattle.tables.specs.Tables.{cheapest}
 use Rattle.tables.specs.Plan.{written}
-use Rattle.solver.specs.Code.{place, noneMark, mark, reading, cellOf, sparedAt, FilledFrom}
+use Rattle.tables.specs.Work.{cellsNeeded}
+use Rattle.tables.specs.Theorems.{mostCost}
+use Rattle.tables.proofs.Most.{delivered-most}
+use Rattle.solver.specs.declared.solving.Solved.{Solved}
+use Rattle.solver.specs.declared.solving.Solved.the-variants.{Found, NoRoute}
+use Rattle.solver.specs.Cells.{place, noneMark, mark}
+use Rattle.solver.specs.Board.{BoardOf}
+use Rattle.solver.specs.Trials.{lent}
+use Rattle.solver.specs.Filling.{LaidOut, Filled, Fillable, FilledFrom}
 use Rattle.solver.specs.Solved.{solvedAs, planAfter}
-use Rattle.solver.proofs.Marks.{UpToOr}
-use Rattle.solver.proofs.Carried.{reading-is, reading-most}
-use Rattle.solver.proofs.Columns.{set-low, delivered-up-to}
-use Rattle.solver.proofs.SetsFilled.{all-here, joins-few}
+use Rattle.solver.proofs.LaidBoard.{tree-here, drawn-here}
+use Rattle.solver.proofs.Places.{set-low, place-low}
+use Rattle.solver.proofs.SetsFilled.{joins-below}
 
--- A cost with the reading of its result, from the figure of both.
-marked-number : (c : Cost) (x y : ℕ) → x ≡ mark (plus c (some y)) → x < noneMark → (y ≤ x) × (c ≡ some (x - y))
-marked-number none x y e h = absurd (omega arith)
-marked-number (some c) x y e h = let back : c ≡ x - y = omega arith in (omega arith, ap some back)
+-- A cost from its figure.
+marked-number : (c : Cost) (x : ℕ) → x ≡ mark c → x < noneMark → c ≡ some x
+marked-number none x e h = absurd (omega arith)
+marked-number (some c) x e h = ap some (sym e)
 
-marked-none : (c : Cost) (x y : ℕ) → x ≡ mark (plus c (some y)) → UpToOr 41_000_025_000_000 c → y ≤ 1_000_000_000_000 → noneMark ≤ x → c ≡ none
-marked-none none x y e u l h = refl
-marked-none (some c) x y e u l h = absurd (omega arith)
+marked-none : (c : Cost) (x : ℕ) → x ≡ mark c → ((y : ℕ) → c ≡ some y → y ≤ mostCost) → noneMark ≤ x → c ≡ none
+marked-none none x e most h = refl
+marked-none (some c) x e most h = absurd (omega (arith, most c refl))
 
-module _ (q : Query) (v : Valid q) (S : ℕ) (e : S ≡ all (q .joins .count + 1)) where
-  pub every-low : (S < 512) × (q .target < 8)
-  every-low = (set-low q v S (rw (all-here q v S e) (all-below (relationsOf q))), omega (arith, v .target-in, v .sites-most))
+-- All relations, and the place of their cell at the query site.
+module _ (q : Query) (v : Valid q) (S : ℕ) (whole : S ≡ all (q .joins .count + 1)) where
+  all-here : S ≡ all (relationsOf q)
+  all-here = whole ∙ ap all (v .tree .joins)
 
-  -- What the code works out for the last read.
-  pub last-reading-is : (spared x r : ℕ) → spared ≡ sparedAt (q .relations .home) (q .relations .index) S → x ≡ getD (q .sizes) S 0 →
-      r ≡ getD (q .sites .rate) (q .target) 0 * read (eqb spared (q .target)) x → r ≡ reading q (all (relationsOf q)) (q .target)
-  last-reading-is spared x r spared-is size-is is =
-      is ∙ rw (spared-is, size-is, all-here q v S e) (reading-is q v (all (relationsOf q)) (q .target) (all-below (relationsOf q)) (omega (arith, v .target-in, v .sites-most)))
+  pub all-low : (S < 512) × (q .target < 8)
+  all-low = (set-low q v S (rw all-here (all-below (relationsOf q))), omega (arith, v .target-in, v .sites-most))
 
-  module _ (old work : List ℕ) (r at : ℕ) (f : FilledFrom q old work r) (is : at ≡ place S (q .target)) where
-    cell : getD work at 0 ≡ mark (plus (cheapest _+_ q) (some (reading q (all (relationsOf q)) (q .target))))
-    unfolding cellOf
-    cell =
-        rw (is, all-here q v S e)
-        (f .cells .each (all (relationsOf q)) (q .target) (all-below (relationsOf q)) (subqueries-law (q .joins) (relationsOf q) (v .tree) .whole) (v .target-in))
+  module _ (at : ℕ) (is : at ≡ place S (q .target)) where
+    pub place-here : (at < cellsNeeded q) × (at < 4_096)
+    unfolding place
+    place-here = (omega (arith, place-low q S (q .target) (all-low .0) (all-low .1)), omega (arith, all-low))
 
-    pub cheapest-number : (y : ℕ) → y ≡ reading q (all (relationsOf q)) (q .target) → getD work at 0 < noneMark →
-        (y ≤ getD work at 0) × (cheapest _+_ q ≡ some (getD work at 0 - y))
-    cheapest-number y same h = marked-number (cheapest _+_ q) (getD work at 0) y (rw same cell) h
+    module _ (combine : ℕ → ℕ → ℕ) (C : Combines combine) (work : List ℕ) (f : Filled combine q work (2 ^ relationsOf q)) where
+      cell-is : getD work at 0 ≡ mark (cheapest combine q)
+      cell-is =
+          rw (is, all-here)
+          (f .each (all (relationsOf q)) (q .target) (all-below (relationsOf q)) (subqueries-law (q .joins) (relationsOf q) (v .tree) .whole) (all-low .1))
 
-    pub cheapest-none : noneMark ≤ getD work at 0 → cheapest _+_ q ≡ none
-    cheapest-none h =
-        marked-none (cheapest _+_ q) (getD work at 0) (reading q (all (relationsOf q)) (q .target)) cell
-        (delivered-up-to q v (all (relationsOf q)) (q .target) (subqueries-law (q .joins) (relationsOf q) (v .tree) .whole))
-        (reading-most q v (all (relationsOf q)) (q .target)) h
+      pub cheapest-number : getD work at 0 < noneMark → cheapest combine q ≡ some (getD work at 0)
+      cheapest-number h = marked-number (cheapest combine q) (getD work at 0) cell-is h
 
-pub trials-few : (q : Query) → Valid q → (old work : List ℕ) (r : ℕ) → FilledFrom q old work r → sitesOf q * r ≤ 8 * 4096
-trials-few q v old work r f =
-    let sets : 2 ^ relationsOf q ≤ 2 ^ 9 = pow-mono (v .relations-most) in
-    let few : r ≤ 4096 = omega (arith, f .joins, joins-few (q .joins) (relationsOf q) (2 ^ relationsOf q) sets) in
-    mul-le-mul (v .sites-most) few
+      pub cheapest-none : noneMark ≤ getD work at 0 → cheapest combine q ≡ none
+      cheapest-none h =
+          marked-none (cheapest combine q) (getD work at 0) cell-is
+          (λ y. delivered-most combine C q v (all (relationsOf q)) (q .target) y (subqueries-law (q .joins) (relationsOf q) (v .tree) .whole)) h
 
-pub answer-found : (q : Query) (c n r : ℕ) → cheapest _+_ q ≡ some c → n ≡ length (written _+_ q) → r ≡ joinsBelow (q .joins) (relationsOf q) (2 ^ relationsOf q) →
-    Found (record { 0 = c }) n (sitesOf q * r) ≡ solvedAs q (cheapest _+_ q)
-answer-found q c n r number long joins = rw (number, long, joins)
+-- What filling asks, from the board and the table of a valid query.
+pub laid-here : (q : Query) (b work : List ℕ) → Valid q → BoardOf q b → LaidOut q (lent b (q .sizes) work)
+laid-here q b work v board = record { valid = v; board = board; sizes = refl }
 
-pub answer-none : (q : Query) (r : ℕ) → cheapest _+_ q ≡ none → r ≡ joinsBelow (q .joins) (relationsOf q) (2 ^ relationsOf q) → NoRoute (sitesOf q * r) ≡ solvedAs q (cheapest _+_ q)
-answer-none q r e joins = rw (e, joins)
+pub fillable-here : (q : Query) (b work table : List ℕ) → Valid q → BoardOf q b → TableOf (q .joins) table (2 ^ (q .joins .count + 1)) →
+    cellsNeeded q ≤ length work → Fillable q (lent b (q .sizes) work) table
+fillable-here q b work table v board table-is room =
+    record {
+      laid = laid-here q b work v board;
+      table-is = record { few = drawn-here q v .few; tree = tree-here q v; entries = table-is };
+      room = room;
+    }
 
-pub plan-found : (q : Query) (c : ℕ) (old new : List ℕ) → cheapest _+_ q ≡ some c → new ≡ written _+_ q ++ drop (length (written _+_ q)) old →
-    new ≡ planAfter (cheapest _+_ q) (written _+_ q) old
-plan-found q c old new number is = rw number is
+-- An answer, and what becomes of the two lent areas.
+abbrev Answered : Query → (old work : List ℕ) → Solved → (plan left : List ℕ) → Type 0
+Answered q old work answer plan left =
+    (answer ≡ solvedAs q (cheapest _+_ q)) ×
+    ((left ≡ planAfter (cheapest _+_ q) (written _+_ q) plan) × ((length work ≡ length old) × (drop (cellsNeeded q) work ≡ drop (cellsNeeded q) old)))
 
-pub plan-none : (q : Query) (old : List ℕ) → cheapest _+_ q ≡ none → old ≡ planAfter (cheapest _+_ q) (written _+_ q) old
-plan-none q old e = rw e
+-- What filling leaves: the trials are few, and the answer follows from what the query costs.
+module _ (q : Query) (old work : List ℕ) (r : ℕ) (f : FilledFrom _+_ q old work r) where
+  pub trials-few : Valid q → sitesOf q * r ≤ 8 * 4_096
+  trials-few v =
+      let sets : 2 ^ relationsOf q ≤ 2 ^ 9 = pow-mono (v .relations-most) in
+      let few : r ≤ 4_096 = omega (arith, f .joins, joins-below (q .joins) (relationsOf q) (2 ^ relationsOf q) sets) in
+      mul-le-mul (v .sites-most) few
+
+  pub answer-found : (c n : ℕ) (plan left : List ℕ) → cheapest _+_ q ≡ some c →
+      (n ≡ length (written _+_ q)) × (left ≡ written _+_ q ++ drop (length (written _+_ q)) plan) →
+      Answered q old work (Found (record { 0 = c }) n (sitesOf q * r)) plan left
+  answer-found c n plan left number wrote = (rw (number, wrote .0, f .joins), (rw number (wrote .1), (f .long, f .later)))
+
+  pub answer-none : (plan : List ℕ) → cheapest _+_ q ≡ none → Answered q old work (NoRoute (sitesOf q * r)) plan plan
+  answer-none plan e = (rw (e, f .joins), (rw e, (f .long, f .later)))

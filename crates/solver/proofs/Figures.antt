@@ -1,30 +1,31 @@
--- Laws of the cells and the figures that the code keeps: each way through a small function, and each turn of a loop, as a law over plain variables.
+-- Laws of the cells and the figures that the code keeps: places apart, the lesser of two figures, and the least of many with its lowest place.
 use Prim.Native.Nat.{ℕ, zero, suc, _+_, _*_, _^_, _≤_, _<_}
-use native.Mathlib.Nat.{le-refl, mul-le-mul}
+use native.Mathlib.Nat.{le-refl}
 use native.Mathlib.Numerals.{add-one}
+use native.Mathlib.Decide.{decLt}
 use native.Mathlib.Omega.{arith}
 use mathlib.Core.Path.{_≡_, refl, sym, ap, _∙_}
 use mathlib.Core.Bool.{Bool, true, false}
-use mathlib.Core.List.{List}
-use lib.ListN.{getD}
 use lib.Dec.{ltb}
+use mir.Syntax.{w64}
+use mir.Val.{Fits}
 use borrow.Author.Tests.{lt-ltb, le-ltb, ltb-true}
 use Rattle.query.specs.Choice.{pick}
 use Rattle.solver.specs.declared.cells.Choice.{Choice}
-use Rattle.solver.specs.Code.{place, noneMark, lesser, leastOf, placeOf, ChoiceOf, betterOf, baseAt}
+use Rattle.solver.specs.Cells.{place, noneMark, lesser, leastOf, placeOf, ChoiceOf, betterOf}
 
 -- The place of a cell.
-pub place-is : (S t : ℕ) → S < 512 → t < 8 → (8 * S + t ≡ place S t) × (8 * S + t < 4096)
+pub place-is : (S t : ℕ) → 8 * S + t ≡ place S t
 unfolding place
-place-is S t h g = (refl, omega arith)
-
-pub place-low : (S t : ℕ) → S < 512 → t < 8 → place S t < 4096
-unfolding place
-place-low S t h g = omega arith
+place-is S t = refl
 
 pub place-apart : (S T t u : ℕ) → t < 8 → u < 8 → place S t ≡ place T u → (S ≡ T) × (t ≡ u)
 unfolding place
 place-apart S T t u h g e = (omega arith, omega arith)
+
+pub place-fits : (S t at : ℕ) → S < 512 → t < 8 → at ≡ place S t → Fits w64 (at * 8)
+unfolding place
+place-fits S t at h g e = omega arith
 
 -- The lesser of two figures, and the better of two choices.
 pub lesser-new : (new kept : ℕ) → new < kept → new ≡ lesser new kept
@@ -57,6 +58,16 @@ unfolding leastOf
 least-most g zero = le-refl _
 least-most g (suc m) = lesser-most (g m) (leastOf g m) noneMark (least-most g m)
 
+pub least-skip : (g : ℕ → ℕ) (p n : ℕ) → p ≤ n → ((i : ℕ) → p ≤ i → i < n → g i ≡ noneMark) → leastOf g p ≡ leastOf g n
+unfolding leastOf
+least-skip g zero zero l h = refl
+least-skip g (suc p) zero l h = absurd (omega arith)
+least-skip g p (suc n) l h = elim (decLt n p) [
+  | yes k ↦ (let e : p ≡ suc n = omega arith in rw e)
+  | no k ↦ least-skip g p n (omega arith) (λ i low below. h i low (omega arith))
+      ∙ lesser-kept (g n) (leastOf g n) (omega (arith, h n (omega arith) (le-refl _), least-most g n))
+]
+
 -- The least before any figure, and with one figure more.
 pub choice-none : (g : ℕ → ℕ) → ChoiceOf g 0 (record { figure = 2 ^ 60; at = 0 })
 unfolding leastOf placeOf
@@ -79,7 +90,14 @@ choice-same g m kept c e =
     let u : ltb (g m) (leastOf g m) ≡ false = le-ltb (g m) (leastOf g m) (omega (arith, least-most g m)) in
     rw (add-one m) (record { figure-is = rw u (c .figure-is); at-is = rw u (c .at-is) })
 
--- What a join charges whatever its parts is far below the figure of none.
-pub base-most : (fixed rate : List ℕ) (size k : ℕ) → getD fixed k 0 ≤ 1_000_000 → getD rate k 0 ≤ 1_000 → size ≤ 1_000_000_000 → baseAt fixed rate size k ≤ noneMark
-unfolding baseAt
-base-most fixed rate size k f r z = omega (arith, mul-le-mul r z)
+-- Figures that agree below m have the same least one at the same place.
+pub least-same : (f g : ℕ → ℕ) (m : ℕ) → ((k : ℕ) → k < m → f k ≡ g k) → leastOf f m ≡ leastOf g m
+unfolding leastOf
+least-same f g zero h = refl
+least-same f g (suc m) h = rw (h m (le-refl _), least-same f g m (λ k l. h k (omega arith)))
+
+pub place-same : (f g : ℕ → ℕ) (m : ℕ) → ((k : ℕ) → k < m → f k ≡ g k) → placeOf f m ≡ placeOf g m
+unfolding placeOf
+place-same f g zero h = refl
+place-same f g (suc m) h =
+    rw (h m (le-refl _), least-same f g m (λ k l. h k (omega arith)), place-same f g m (λ k l. h k (omega arith)))

@@ -1,16 +1,18 @@
 -- The figures that the loops keep are the figures of the costs: the least of figures that show costs is the figure of the least cost, at the
--- same place. A sum with none is no less than the figure of none, so it is never kept, and no sum of numbers comes near it.
+-- same place. A figure with none in it is no less than that of none, so it is never kept, and no sum of numbers comes near it.
 use Prim.Native.Nat.{ℕ, zero, suc, _+_, _≤_, _<_}
-use native.Mathlib.Nat.{le-refl}
+use native.Mathlib.Nat.{le-refl, eq-or-lt-of-le, le-of-suc-le-suc}
 use native.Mathlib.Omega.{arith}
-use mathlib.Core.Path.{_≡_, refl, ap, _∙_}
+use mathlib.Core.Path.{_≡_, refl, ap, subst, _∙_}
 use mathlib.Core.Bool.{Bool, true, false}
+use mathlib.Core.Logic.{_⊎_, inl, inr}
 use lib.Dec.{ltb}
 use borrow.Author.Tests.{lt-ltb, le-ltb}
 use Rattle.query.specs.Choice.{pick}
-use Rattle.query.specs.Cost.{Cost, none, some, both, plus}
+use Rattle.query.specs.Cost.{Cost, none, some, both}
+use Rattle.rules.specs.Combine.{Combines}
 use Rattle.tables.specs.Least.{Best, better, best, least}
-use Rattle.solver.specs.Code.{noneMark, mark, lesser, leastOf, placeOf, withReading}
+use Rattle.solver.specs.Cells.{noneMark, mark, lesser, leastOf, placeOf}
 
 -- A cost that is at most n, or none; and a figure for such a cost, which for none need only be no less than that of none.
 abbrev pub UpToOr : ℕ → Cost → Type 0
@@ -21,15 +23,29 @@ abbrev pub Shows : ℕ → ℕ → Cost → Type 0
 Shows n x none = noneMark ≤ x
 Shows n x (some c) = (x ≡ c) × (c ≤ n)
 
+pub up-to-is : (n : ℕ) (c : Cost) → ((v : ℕ) → c ≡ some v → v ≤ n) → UpToOr n c
+up-to-is n none h = tt
+up-to-is n (some v) h = h v refl
+
+pub mark-most : (n : ℕ) (c : Cost) → n < noneMark → UpToOr n c → mark c ≤ noneMark
+mark-most n none l h = le-refl _
+mark-most n (some c) l h = omega arith
+
+-- The figure of a cost shows it; and two figures combined show the two costs combined.
+pub shows-mark : (n : ℕ) (c : Cost) → UpToOr n c → Shows n (mark c) c
+shows-mark n none h = le-refl _
+shows-mark n (some c) h = (refl, h)
+
+pub shows-both : (combine : ℕ → ℕ → ℕ) → Combines combine → (n m x y : ℕ) (a b : Cost) → Shows n x a → Shows m y b → Shows (n + m) (combine x y) (both combine a b)
+shows-both combine C n m x y none b h g = omega (arith, C .least x y)
+shows-both combine C n m x y (some c) none h g = omega (arith, C .least y x, C .comm x y)
+shows-both combine C n m x y (some c) (some d) (e, h) (f, g) = (cc, omega (arith, C .most c d))
+
 -- A kept figure and place, for the best of some costs.
 pub record Kept (n : ℕ) (b : Best) (x i : ℕ) : Type 0 where
   pub figure-is : x ≡ mark (b .cost)
   pub at-is : i ≡ b .at
   pub most : UpToOr n (b .cost)
-
-pub mark-most : (n : ℕ) (c : Cost) → n < noneMark → UpToOr n c → mark c ≤ noneMark
-mark-most n none l h = le-refl _
-mark-most n (some c) l h = omega arith
 
 kept-more : (n m : ℕ) (new : Cost) (b : Best) (old : Cost) (x y i : ℕ) → n < noneMark → b .cost ≡ old → Kept n b x i → Shows n y new →
     Kept n (better new m b old) (lesser y x) (pick (ltb y x) m i)
@@ -59,33 +75,20 @@ kept-all n l f g zero h = record { figure-is = refl; at-is = refl; most = tt }
 kept-all n l f g (suc m) h =
     kept-more n m (f m) (best f m) (least f m) (leastOf g m) (g m) (placeOf g m) l refl (kept-all n l f g m (λ i k. h i (omega arith))) (h m (le-refl _))
 
--- Two cells, each a cost with the reading of its result, and what a join charges besides: the two costs and the whole price.
-pub shows-joined : (n x y z p : ℕ) (a b : Cost) → x + y + z ≡ p → UpToOr n a → UpToOr n b →
-    Shows (n + n + p) (mark (plus a (some x)) + mark (plus b (some y)) + z) (plus (both _+_ a b) (some p))
-shows-joined n x y z p none b e h g = omega arith
-shows-joined n x y z p (some c) none e h g = omega arith
-shows-joined n x y z p (some c) (some d) e h g = (omega arith, omega arith)
+-- Further figures that show none change nothing.
+pub kept-rest : (n : ℕ) → n < noneMark → (b : Best) (g : ℕ → ℕ) (m k : ℕ) → m ≤ k → ((i : ℕ) → m ≤ i → noneMark ≤ g i) → Kept n b (leastOf g m) (placeOf g m) →
+    Kept n b (leastOf g k) (placeOf g k)
+unfolding leastOf placeOf
+kept-rest n l b g m zero h rest kept = let first : m ≡ 0 = omega arith in subst (λ (i : ℕ). Kept n b (leastOf g i) (placeOf g i)) first kept
+kept-rest n l b g m (suc k) h rest kept = go (eq-or-lt-of-le h) (λ low. kept-rest n l b g m k low rest kept)
+  where
+    go : (m ≡ suc k) ⊎ (m < suc k) → (m ≤ k → Kept n b (leastOf g k) (placeOf g k)) → Kept n b (leastOf g (suc k)) (placeOf g (suc k))
+    go (inl e) before = subst (λ (i : ℕ). Kept n b (leastOf g i) (placeOf g i)) e kept
+    go (inr low) before =
+        kept-more n k none b (b .cost) (leastOf g k) (g k) (placeOf g k) l refl (before (le-of-suc-le-suc low)) (rest k (le-of-suc-le-suc low))
 
--- A cost and a carriage.
-pub shows-sent : (n m : ℕ) (a b : Cost) → UpToOr n a → UpToOr m b → Shows (n + m) (mark a + mark b) (plus a b)
-shows-sent n m none b h g = omega arith
-shows-sent n m (some c) none h g = omega arith
-shows-sent n m (some c) (some d) h g = (refl, omega arith)
-
-pub shows-more : (n m x : ℕ) (c : Cost) → n ≤ m → Shows n x c → Shows m x c
-shows-more n m x none l h = h
-shows-more n m x (some c) l (a, h) = (a, omega arith)
-
--- A cost with the reading of its result, and its figure.
-pub up-to-read : (n m x : ℕ) (c : Cost) → UpToOr n c → x ≤ m → UpToOr (n + m) (plus c (some x))
-up-to-read n m x none h l = tt
-up-to-read n m x (some c) h l = omega arith
-
-pub read-figure : (n x : ℕ) (c : Cost) → n < noneMark → UpToOr n c → withReading (mark c) x ≡ mark (plus c (some x))
-unfolding withReading
-read-figure n x none l h = refl
-read-figure n x (some c) l h = rw (lt-ltb c noneMark (omega arith))
-
-pub up-to-is : (n : ℕ) (c : Cost) → ((v : ℕ) → c ≡ some v → v ≤ n) → UpToOr n c
-up-to-is n none h = tt
-up-to-is n (some v) h = h v refl
+-- Where each shows none, the figure of none is kept.
+pub none-kept : (g : ℕ → ℕ) (m : ℕ) → ((i : ℕ) → noneMark ≤ g i) → leastOf g m ≡ noneMark
+unfolding leastOf placeOf
+none-kept g m h =
+    kept-rest 0 (omega arith) (record { cost = none; at = 0 }) g 0 m (omega arith) (λ i l. h i) (record { figure-is = refl; at-is = refl; most = tt }) .figure-is

@@ -3,13 +3,23 @@ use Prim.Native.Nat.{ℕ, zero, suc, _+_, _^_, _<_}
 use native.Mathlib.Nat.{le-refl, le-of-suc-le-suc, eq-or-lt-of-le}
 use native.Mathlib.Omega.{arith}
 use mathlib.Core.Path.{_≡_, refl, sym, ap, subst, _∙_}
+use mathlib.Core.Bool.{Bool, true, false}
 use mathlib.Core.Logic.{_⊎_, inl, inr}
 use lib.Count.{ones}
 use lib.Dec.{eqb}
-use borrow.Author.Tests.{eq-eqb, ne-eqb}
-use Rattle.relations.specs.Trees.{Subquery}
+use borrow.Author.Tests.{eq-eqb, ne-eqb, eqb-true, eqb-false}
+use Rattle.relations.specs.declared.Joins.{Joins}
+use Rattle.relations.specs.Sets.{bit}
+use Rattle.relations.specs.Growth.{inside}
+use Rattle.relations.specs.Trees.{Subquery, Tree, joinsIn}
+use Rattle.relations.specs.Code.{orNone}
+use Rattle.relations.specs.Table.{joinBits}
+use Rattle.relations.proofs.Bits.{bit-none}
 use Rattle.relations.proofs.Connected.{subquery-range}
-use Rattle.relations.proofs.Counts.{lowest-below}
+use Rattle.relations.proofs.Counts.{lowest-below, ones-pos}
+use Rattle.relations.proofs.Entries.{joins-next, bits-next, bits-inside}
+use Rattle.relations.proofs.JoinCounts.{joins-count}
+use Rattle.relations.proofs.Subqueries.{subqueries-law}
 use Rattle.query.specs.declared.Query.{Query}
 use Rattle.query.specs.Choice.{pick}
 use Rattle.query.specs.Cost.{Cost, none, some, plus}
@@ -20,8 +30,8 @@ use Rattle.tables.specs.Tables.{only, bySite, delivered, joined}
 use Rattle.tables.proofs.Least.{best-same}
 use Rattle.tables.proofs.Tables.{ones-some, delivered-one, delivered-more}
 
-unfoldable pub startCost : Query → ℕ → ℕ → Cost
-startCost q S k = pick (eqb (ones S) 1) (pick (eqb k (home q (only q S))) (some 0) none) (joined _+_ q S k)
+unfoldable pub startCost : (ℕ → ℕ → ℕ) → Query → ℕ → ℕ → Cost
+startCost combine q S k = pick (eqb (ones S) 1) (pick (eqb k (home q (only q S))) (some 0) none) (joined combine q S k)
 
 -- The least of costs of which at most one is a number.
 least-none : (f : ℕ → Cost) (m : ℕ) → ((i : ℕ) → i < m → f i ≡ none) → least f m ≡ none
@@ -48,24 +58,54 @@ plus-nothing : (c : Cost) → plus (some 0) c ≡ c
 plus-nothing none = refl
 plus-nothing (some c) = let e : 0 + c ≡ c = omega arith in ap some e
 
--- With two relations or more it starts where it is joined.
-pub started-same : (q : Query) (S t : ℕ) → (ones S ≡ 1 → ⊥) → best (bySite (startCost q S) q S t) (sitesOf q) ≡ best (bySite (joined _+_ q S) q S t) (sitesOf q)
-unfolding startCost
-started-same q S t more = best-same (bySite (startCost q S) q S t) (bySite (joined _+_ q S) q S t) (sitesOf q) (λ k m. rw (ne-eqb (ones S) 1 more))
+module _ (combine : ℕ → ℕ → ℕ) (q : Query) where
+  -- With two relations or more it starts where it is joined.
+  pub started-same : (S t : ℕ) → (ones S ≡ 1 → ⊥) → best (bySite (startCost combine q S) q S t) (sitesOf q) ≡ best (bySite (joined combine q S) q S t) (sitesOf q)
+  unfolding startCost
+  started-same S t more =
+      best-same (bySite (startCost combine q S) q S t) (bySite (joined combine q S) q S t) (sitesOf q) (λ k m. rw (ne-eqb (ones S) 1 more))
 
-pub delivered-started : (q : Query) → Valid q → (S t : ℕ) → Subquery (q .joins) (relationsOf q) S → delivered _+_ q S t ≡ least (bySite (startCost q S) q S t) (sitesOf q)
-unfolding startCost
-delivered-started q v S t s = go (eq-or-lt-of-le (ones-some q v S s))
+  pub delivered-started : Valid q → (S t : ℕ) → Subquery (q .joins) (relationsOf q) S → delivered combine q S t ≡ least (bySite (startCost combine q S) q S t) (sitesOf q)
+  unfolding startCost
+  delivered-started v S t s = go (eq-or-lt-of-le (ones-some q v S s))
+    where
+      range : (0 < S) × (S < 2 ^ relationsOf q)
+      range = subquery-range (q .joins) (relationsOf q) S s
+
+      go : (1 ≡ ones S) ⊎ (1 < ones S) → delivered combine q S t ≡ least (bySite (startCost combine q S) q S t) (sitesOf q)
+      go (inl one) =
+          let h : ℕ = home q (only q S) in
+          let listed : h < sitesOf q = v .homes (only q S) (lowest-below (relationsOf q) S (range .0) (range .1)) in
+          let here : bySite (startCost combine q S) q S t h ≡ carriage q S h t = rw (eq-eqb (ones S) 1 (sym one), eq-eqb h h refl) (plus-nothing (carriage q S h t)) in
+          delivered-one combine q v S t s (sym one)
+          ∙ sym (least-one (bySite (startCost combine q S) q S t) h (sitesOf q) listed (λ i other. rw (eq-eqb (ones S) 1 (sym one), ne-eqb i h other)) ∙ here)
+      go (inr more) =
+          delivered-more combine q v S t s more ∙ ap (λ (b : Best). b .cost) (sym (started-same S t (λ e. omega arith)))
+
+-- A subquery has one relation exactly where it has no join.
+no-bits : (J : Joins) (S m : ℕ) → joinsIn J S m ≡ 0 → joinBits J S m ≡ 0
+unfolding joinBits
+no-bits J S zero h = refl
+no-bits J S (suc m) h = omega (arith, bits-next J S m, no-bits J S m (omega (arith, joins-next J S m)), go (inside J S m) (omega (arith, joins-next J S m)))
   where
-    range : (0 < S) × (S < 2 ^ relationsOf q)
-    range = subquery-range (q .joins) (relationsOf q) S s
+    go : (d : Bool) → orNone d 1 ≡ 0 → orNone d (2 ^ m) ≡ 0
+    go true e = absurd (omega arith)
+    go false e = refl
 
-    go : (1 ≡ ones S) ⊎ (1 < ones S) → delivered _+_ q S t ≡ least (bySite (startCost q S) q S t) (sitesOf q)
-    go (inl one) =
-        let h : ℕ = home q (only q S) in
-        let listed : h < sitesOf q = v .homes (only q S) (lowest-below (relationsOf q) S (range .0) (range .1)) in
-        let here : bySite (startCost q S) q S t h ≡ carriage q S h t = rw (eq-eqb (ones S) 1 (sym one), eq-eqb h h refl) (plus-nothing (carriage q S h t)) in
-        delivered-one _+_ q v S t s (sym one)
-        ∙ sym (least-one (bySite (startCost q S) q S t) h (sitesOf q) listed (λ i other. rw (eq-eqb (ones S) 1 (sym one), ne-eqb i h other)) ∙ here)
-    go (inr more) =
-        delivered-more _+_ q v S t s more ∙ ap (λ (b : Best). b .cost) (sym (started-same q S t (λ e. omega arith)))
+module _ (J : Joins) (n : ℕ) (tree : Tree J n) (S : ℕ) (s : Subquery J n S) where
+  pub one-of-none : joinBits J S (J .count) ≡ 0 → ones S ≡ 1
+  one-of-none e = go (eq-or-lt-of-le (ones-pos S (subquery-range J n S s .0)))
+    where
+      go : (1 ≡ ones S) ⊎ (1 < ones S) → ones S ≡ 1
+      go (inl one) = sym one
+      go (inr more) =
+          let found = subqueries-law J n tree .some-join S s more in
+          let held : bit (joinBits J S (J .count)) (found .0) ≡ 1 = bits-inside J S (J .count) (found .0) (found .1) ∙ rw (found .2) in
+          absurd (omega (arith, held, bit-none (found .0), ap (λ (x : ℕ). bit x (found .0)) e))
+
+  pub none-is-one : eqb (joinBits J S (J .count)) 0 ≡ eqb (ones S) 1
+  none-is-one = go (eqb (ones S) 1) refl
+    where
+      go : (o : Bool) → eqb (ones S) 1 ≡ o → eqb (joinBits J S (J .count)) 0 ≡ o
+      go true one = eq-eqb (joinBits J S (J .count)) 0 (no-bits J S (J .count) (omega (arith, joins-count J n tree S s, eqb-true (ones S) 1 one)))
+      go false more = ne-eqb (joinBits J S (J .count)) 0 (λ e. eqb-false (ones S) 1 more (one-of-none e))

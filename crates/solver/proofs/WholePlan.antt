@@ -1,68 +1,83 @@
--- The whole plan: all relations at the query site, at most 34 steps, so 69 bytes are room enough; its count goes before its steps.
+-- The whole plan: all relations at the query site, in room for the longest plan; its count goes before its steps.
 use Prim.Native.Nat.{ℕ, _+_, _-_, _/_, _^_, _≤_}
 use native.Mathlib.Omega.{arith}
-use mathlib.Core.Path.{_≡_, refl, sym, subst}
+use mathlib.Core.Path.{_≡_, ap, _∙_}
 use mathlib.Core.List.{List, _++_}
 use lib.ListN.{length, drop, set}
+use mir.Syntax.{w8}
+use mir.Val.{Fits}
 use Rattle.relations.specs.Sets.{all}
 use Rattle.relations.proofs.Subqueries.{subqueries-law}
 use Rattle.query.specs.declared.Query.{Query}
-use Rattle.query.specs.Query.{Valid, relationsOf}
+use Rattle.query.specs.Query.{relationsOf}
 use Rattle.query.specs.Cost.{some}
+use Rattle.rules.specs.Combine.{Combines}
+use Rattle.rules.specs.Plans.{longestPlan}
 use Rattle.tables.specs.Tables.{cheapest}
 use Rattle.tables.specs.Plan.{writtenDelivered, writtenSteps, stepBytes, written}
-use Rattle.solver.specs.Code.{MasksOf, CarriagesOf, Filled, Wrote, listsOf, ToDeliver}
-use Rattle.tables.proofs.Upper.{written-law}
-use Rattle.rules.proofs.Combinations.{plus-combines}
-use Rattle.solver.proofs.SetsFilled.{all-here}
+use Rattle.tables.proofs.Upper.{written-most}
 use Rattle.tables.proofs.StepBytes.{step-bytes-long}
+use Rattle.solver.specs.Board.{joinsAt}
+use Rattle.solver.specs.Trials.{Lent}
+use Rattle.solver.specs.Filling.{LaidOut, Filled}
+use Rattle.solver.specs.Writing.{Wrote, ToDeliver}
 use Rattle.solver.proofs.Stores.{plan-stored}
 
-module _ (q : Query) (v : Valid q) (c : ℕ) (number : cheapest _+_ q ≡ some c) where
-  few-steps : length (writtenSteps _+_ q) ≤ 34
-  few-steps = written-law _+_ plus-combines q v c number .few-steps
+module _ (combine : ℕ → ℕ → ℕ) (C : Combines combine) (l : Lent) (t joins S : ℕ) (joins-are : joins ≡ joinsAt (l .board)) (every : S ≡ all (joins + 1)) where
+  -- The query that is laid out, with a way to its query site.
+  module _ (q : Query) (laid : LaidOut q l) (filled : Filled combine q (l .work) (2 ^ relationsOf q)) (to : q .target ≡ t) (c : ℕ)
+      (number : cheapest combine q ≡ some c) where
+    all-is : S ≡ all (relationsOf q)
+    all-is = let n : joins + 1 ≡ relationsOf q = omega (arith, joins-are, laid .board .joins, laid .valid .tree .joins) in every ∙ ap all n
 
-  -- The written plan has at most 69 bytes.
-  pub written-most : length (written _+_ q) ≤ 69
-  written-most = omega (arith, step-bytes-long (writtenSteps _+_ q), few-steps)
+    start : ToDeliver combine q l S t
+    start =
+        rw (all-is, ← to)
+        (record {
+          known = record { laid = laid; filled = filled; subquery = subqueries-law (q .joins) (relationsOf q) (laid .valid .tree) .whole };
+          listed = laid .valid .target-in;
+          cost = c;
+          cost-is = number;
+        })
 
-  pub plan-start : (ends sides fixed rate work : List ℕ) (S : ℕ) → MasksOf q ends sides → CarriagesOf q fixed rate → Filled q work (2 ^ relationsOf q) →
-      S ≡ all (q .joins .count + 1) → ToDeliver q (listsOf q ends sides fixed rate work) S (q .target)
-  plan-start ends sides fixed rate work S masks carriages filled e =
-      subst (λ (X : ℕ). ToDeliver q (listsOf q ends sides fixed rate work) X (q .target)) (sym (all-here q v S e))
-      (record {
-        known = record {
-          valid = v;
-          lists-are = refl;
-          masks = masks;
-          carriages = carriages;
-          filled = filled;
-          subquery = subqueries-law (q .joins) (relationsOf q) (v .tree) .whole;
-        };
-        listed = v .target-in;
-        cost = c;
-        cost-is = number;
-      })
+    abbrev steps : List ℕ
+    steps = stepBytes (writtenSteps combine q)
 
-  steps-long : (S : ℕ) → S ≡ all (q .joins .count + 1) → length (stepBytes (writtenDelivered _+_ q S (q .target))) ≤ 68
-  steps-long S e = rw (all-here q v S e) (omega (arith, step-bytes-long (writtenSteps _+_ q), few-steps))
+    bytes-are : stepBytes (writtenDelivered combine q S t) ≡ steps
+    bytes-are = rw (all-is, ← to)
 
-  pub plan-room : (l : List ℕ) (S : ℕ) → S ≡ all (q .joins .count + 1) → 69 ≤ length l → 1 + length (stepBytes (writtenDelivered _+_ q S (q .target))) ≤ length l
-  plan-room l S e h = omega (arith, steps-long S e)
+    most : 1 + length steps ≤ longestPlan
+    most = omega (arith, written-most combine C q (laid .valid) c number)
 
-  module _ (l m : List ℕ) (S r : ℕ) (e : S ≡ all (q .joins .count + 1)) (w : Wrote l 1 (stepBytes (writtenDelivered _+_ q S (q .target))) r m) where
-    pub plan-end : r ≤ 69
-    plan-end = omega (arith, w .next, steps-long S e)
+    stored : (old new : List ℕ) (r : ℕ) → longestPlan ≤ length old → Wrote old 1 steps r new →
+        (r ≡ length (written combine q)) × (set new 0 ((r - 1) / 2) ≡ written combine q ++ drop (length (written combine q)) old)
+    stored old new r room w =
+        let count : (r - 1) / 2 ≡ length (writtenSteps combine q) = omega (arith, w .next, step-bytes-long (writtenSteps combine q)) in
+        (omega (arith, w .next), rw count (plan-stored old new steps (length (writtenSteps combine q)) r w (omega (arith, most))))
 
-    wrote : Wrote l 1 (stepBytes (writtenSteps _+_ q)) r m
-    wrote = rw (all-here q v S e) at w
+  -- What the writer of a plan is asked.
+  abbrev Planning : List ℕ → Type 0
+  Planning old =
+      (q : Query) × ((LaidOut q l × Filled combine q (l .work) (2 ^ relationsOf q)) × ((q .target ≡ t) × (((c : ℕ) × (cheapest combine q ≡ some c)) × (longestPlan ≤ length old))))
 
-    pub plan-long : r ≡ length (written _+_ q)
-    plan-long = omega (arith, wrote .next)
+  pub plan-asked : (old : List ℕ) → Planning old → (q : Query) × (ToDeliver combine q l S t × (1 + length (stepBytes (writtenDelivered combine q S t)) ≤ length old))
+  plan-asked old (q, ((laid, filled), (to, ((c, number), room)))) =
+      (q, (start q laid filled to c number, rw (bytes-are q laid filled to c number) (omega (arith, most q laid filled to c number))))
 
-    pub plan-is : 69 ≤ length l → set m 0 ((r - 1) / 2) ≡ written _+_ q ++ drop (length (written _+_ q)) l
-    plan-is room =
-        let count : (r - 1) / 2 ≡ length (writtenSteps _+_ q) = omega (arith, wrote .next, step-bytes-long (writtenSteps _+_ q)) in
-        rw count
-        (plan-stored l m (stepBytes (writtenSteps _+_ q)) (length (writtenSteps _+_ q)) r wrote
-        (omega (arith, step-bytes-long (writtenSteps _+_ q), few-steps)))
+  module _ (old new : List ℕ) (r : ℕ) (p : Planning old) (w : (q : Query) → ToDeliver combine q l S t → Wrote old 1 (stepBytes (writtenDelivered combine q S t)) r new) where
+    wrote : (q : Query) (laid : LaidOut q l) (filled : Filled combine q (l .work) (2 ^ relationsOf q)) (to : q .target ≡ t) (c : ℕ) (number : cheapest combine q ≡ some c) →
+        Wrote old 1 (stepBytes (writtenSteps combine q)) r new
+    wrote q laid filled to c number = rw (bytes-are q laid filled to c number) at (w q (start q laid filled to c number))
+
+    own : Wrote old 1 (stepBytes (writtenSteps combine (p .0))) r new
+    own = wrote (p .0) (p .1 .0 .0) (p .1 .0 .1) (p .1 .1 .0) (p .1 .1 .1 .0 .0) (p .1 .1 .1 .0 .1)
+
+    pub plan-some : 1 ≤ r
+    plan-some = omega (arith, own .next)
+
+    pub plan-few : Fits w8 ((r - 1) / 2)
+    plan-few = record { fits = omega (arith, own .next, most (p .0) (p .1 .0 .0) (p .1 .0 .1) (p .1 .1 .0) (p .1 .1 .1 .0 .0) (p .1 .1 .1 .0 .1)) }
+
+    pub plan-is : (q : Query) → LaidOut q l → Filled combine q (l .work) (2 ^ relationsOf q) → q .target ≡ t → (c : ℕ) → cheapest combine q ≡ some c →
+        (r ≡ length (written combine q)) × (set new 0 ((r - 1) / 2) ≡ written combine q ++ drop (length (written combine q)) old)
+    plan-is q laid filled to c number = stored q laid filled to c number old new r (p .1 .1 .1 .1) (wrote q laid filled to c number)

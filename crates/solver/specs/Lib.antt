@@ -1,2 +1,7 @@
-pub mod Code
+pub mod Cells
+pub mod Board
+pub mod Laying
+pub mod Trials
+pub mod Filling
+pub mod Writing
 pub mod Solved

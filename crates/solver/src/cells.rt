@@ -1,7 +1,7 @@
-// The work area: where the cell of a subquery at a site stands, and which of two figures is kept.
-ghost use Prim.Native.Nat.{_<_};
+// What a cell is: Delivered of a subquery at a site, or none. Where it stands in the work area, and which of two figures is kept.
+ghost use Prim.Native.Nat.{_+_, _^_, _≤_, _<_};
 ghost use mathlib.Core.Path.{_≡_};
-ghost use Rattle.solver.specs.Code.{place, lesser, betterOf};
+ghost use Rattle.solver.specs.Cells.{place, noneMark, lesser, betterOf};
 
 // The figure that stands for none: no sum of figures and prices comes near it, and no sum with it is below it.
 pub(crate) const NONE: u64 = 1152921504606846976;
@@ -15,16 +15,19 @@ pub struct Choice {
 // The place of a subquery's cell at a site.
 pub(crate) fn place(set: usize, site: usize) -> usize
     requires { ⌜ (set < 512) × (site < 8) ⌝ }
-    ensures { λ r. ⌜ (r ≡ place set site) × (r < 4096) ⌝ }
+    ensures { λ r. ⌜ r ≡ place set site ⌝ }
 {
     8 * set + site
 }
 
-// The lesser of a new figure and the kept one.
+// The lesser of a new figure and the kept one, by the sign of their difference: no branch, and fewer instructions than a comparison has.
 pub(crate) fn lesser(new: u64, kept: u64) -> u64
-    ensures { λ r. ⌜ r ≡ lesser new kept ⌝ }
+    requires { ⌜ (new < 2 ^ 62) × (kept ≤ noneMark) ⌝ }
+    ensures { λ r. ⌜ (r ≡ lesser new kept) × (r ≤ noneMark) ⌝ }
 {
-    if new < kept { new } else { kept }
+    let d = new as i64 - kept as i64;
+    let less = if d < 0 { d } else { 0 };
+    (kept as i64 + less) as u64
 }
 
 // The new figure at i where it is less than the kept one, else the kept one: of equal figures the lower place stays.

@@ -1,62 +1,63 @@
-// Filling the work area: the cells of every subquery at every site, sets in ascending number.
-use crate::carrying::Carriages;
-use crate::joining::start_row;
-use crate::reading::size_of;
-use crate::reading::spared_at;
-use crate::sending::store;
-use query::Query;
-use relations::is_subquery;
+// Filling the work area: the cells of every subquery, sets in ascending number, so that both parts of a set were filled before it.
+use crate::board::homes_at;
+use crate::board::joins_of;
+use crate::delivering::deliver;
+use crate::rows::bare_row;
+use crate::rows::joined_row;
+use crate::trials::size_of;
+use relations::is_connected;
+use relations::joins_in;
 use relations::single;
-ghost use Prim.Native.Nat.{_≤_};
-ghost use lib.ListN.{length};
-ghost use Rattle.query.specs.Query.{Valid};
-ghost use Rattle.solver.specs.Code.{MasksOf, CarriagesOf, FilledFrom};
+ghost use Prim.Native.Nat.{_+_};
+ghost use Rattle.query.specs.declared.Query.{Query};
+ghost use Rattle.solver.specs.Cells.{Stored};
+ghost use Rattle.solver.specs.Trials.{lent, sizeIn, startIn, deliveredIn};
+ghost use Rattle.solver.specs.Filling.{Startable, Fillable, FilledFrom};
 
-// The joins as masks: the two relations of each, and the relations on its first relation's side.
-pub struct Masks {
-    pub ends: [usize; 8],
-    pub sides: [usize; 8],
+// Fills the cells of one subquery, whose joins are given as bits: none for one relation.
+fn fill_set<'a>(
+    board: &'a [u64; 256],
+    sizes: &'a [u64; 512],
+    work: &mut [u64],
+    set: usize,
+    joins: usize,
+)
+    requires { ⌜ Startable (lent (now board) (now sizes) (now work)) joins set ⌝ }
+    ensures { λ _.
+        ⌜ Stored (now (work .entry)) (now (work .exit)) set
+        (deliveredIn (startIn _+_ (lent (now (board .entry)) (now (sizes .entry)) (now (work .entry))) joins set) (now (board .entry))
+        (sizeIn (lent (now (board .entry)) (now (sizes .entry)) (now (work .entry))) set)) ⌝ }
+{
+    let size = size_of(sizes, set);
+    if joins == 0 {
+        let r = usize::trailing_zeros(set) as usize;
+        let bare = bare_row(homes_at(board, r));
+        deliver(&mut *work, board, &bare, size, set);
+        return;
+    }
+    let joined = joined_row(board, sizes, &*work, set, joins);
+    deliver(&mut *work, board, &joined, size, set);
 }
 
 // Fills the cells of every subquery, and counts the joins in all of them.
-pub(crate) fn fill(q: Query, masks: Masks, carriages: Carriages, work: &mut [u64]) -> u64
-    requires { ⌜ Valid q × (4096 ≤ length (now work)) ⌝ }
-    requires { ⌜ MasksOf q (masks .ends) (masks .sides) × CarriagesOf q (carriages .fixed) (carriages .rate) ⌝ }
-    ensures { λ r. ⌜ FilledFrom q (now (work .entry)) (now (work .exit)) r ⌝ }
+pub(crate) fn fill<'a>(
+    board: &'a [u64; 256],
+    sizes: &'a [u64; 512],
+    table: &'a [u32; 512],
+    work: &mut [u64],
+) -> u64
+    requires { ⌜ ((q : Query) × Fillable q (lent (now board) (now sizes) (now work)) (now table)) ⌝ }
+    ensures { λ r.
+        ⌜ ((q : Query) → Fillable q (lent (now (board .entry)) (now (sizes .entry)) (now (work .entry))) (now (table .entry)) →
+        FilledFrom _+_ q (now (work .entry)) (now (work .exit)) r) ⌝ }
 {
-    let joins = q.joins.count;
-    let sites = q.sites.count;
-    let end = single(joins + 1);
+    let end = single(joins_of(board) + 1);
     let mut tried = 0;
     let mut set = 1;
     while set < end {
-        if is_subquery(&masks.ends, joins, set) {
-            let size = size_of(&q.sizes, set);
-            let row = start_row(
-                &*work,
-                &masks.ends,
-                &masks.sides,
-                &q.relations.home,
-                &q.sites.may,
-                &q.sites.fixed,
-                &q.sites.rate,
-                size,
-                joins,
-                sites,
-                set,
-            );
-            let spared = spared_at(&q.relations.home, &q.relations.index, set);
-            store(
-                &mut *work,
-                &row,
-                &carriages.fixed,
-                &carriages.rate,
-                &q.sites.rate,
-                spared,
-                size,
-                sites,
-                set,
-            );
+        let entry = table[set];
+        if is_connected(entry) {
+            fill_set(board, sizes, &mut *work, set, joins_in(entry));
             tried = tried + (usize::count_ones(set) as u64 - 1);
             set += 1;
             continue;

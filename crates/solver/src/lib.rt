@@ -1,12 +1,12 @@
-// Solving: the cells of the two tables, filled set by set, and the plan written from them.
-mod bare;
-mod carrying;
+// Solving: the cells of the two tables, filled set by set, and the plan read off them.
+mod board;
 mod cells;
+mod delivering;
 mod filling;
-mod joining;
-mod reading;
-mod sending;
+mod laying;
+mod rows;
 mod solving;
+mod trials;
 mod writing;
 
 pub use solving::Solved;

@@ -1,22 +1,21 @@
 // Solving a query: the cheapest plan, its cost and the trials, or no route.
-use crate::carrying::carried;
 use crate::cells::NONE;
 use crate::cells::place;
-use crate::filling::Masks;
 use crate::filling::fill;
-use crate::reading::last_reading;
+use crate::laying::laid_out;
 use crate::writing::write_plan;
 use query::Charge;
 use query::Query;
-use relations::ends;
-use relations::sides;
+use relations::join_table;
 use relations::whole;
 ghost use Prim.Native.Nat.{_+_, _≤_};
 ghost use mathlib.Core.Path.{_≡_};
 ghost use lib.ListN.{length, drop};
 ghost use Rattle.query.specs.Query.{Valid};
+ghost use Rattle.rules.specs.Plans.{longestPlan};
 ghost use Rattle.tables.specs.Tables.{cheapest};
 ghost use Rattle.tables.specs.Plan.{written};
+ghost use Rattle.tables.specs.Work.{cellsNeeded};
 ghost use Rattle.solver.specs.Solved.{solvedAs, planAfter};
 
 // What solving a query gives: the cost of the cheapest plan, how many bytes it has and the trials; or none, with the trials.
@@ -33,27 +32,23 @@ pub enum Solved {
 
 // Solves a query over a lent work area, and writes the plan at the front of the other lent area.
 pub fn solve(q: Query, work: &mut [u64], plan: &mut [u8]) -> Solved
-    requires { ⌜ Valid q × ((4096 ≤ length (now work)) × (69 ≤ length (now plan))) ⌝ }
+    requires { ⌜ Valid q × ((cellsNeeded q ≤ length (now work)) × (longestPlan ≤ length (now plan))) ⌝ }
     ensures answer { λ r. ⌜ r ≡ solvedAs q (cheapest _+_ q) ⌝ }
     ensures written { λ _. ⌜ now (plan .exit) ≡ planAfter (cheapest _+_ q) (written _+_ q) (now (plan .entry)) ⌝ }
     ensures cells { λ _.
-        ⌜ (length (now (work .exit)) ≡ length (now (work .entry))) × (drop 4096 (now (work .exit)) ≡ drop 4096 (now (work .entry))) ⌝ }
+        ⌜ (length (now (work .exit)) ≡ length (now (work .entry))) × (drop (cellsNeeded q) (now (work .exit)) ≡ drop (cellsNeeded q) (now (work .entry))) ⌝ }
 {
-    let masks = Masks {
-        ends: ends(q.joins),
-        sides: sides(q.joins),
-    };
-    let lines = carried(q.lines);
-    let joins = fill(q, masks, lines, &mut *work);
+    let board = laid_out(q);
+    let table = join_table(q.joins);
+    let joins = fill(&board, &q.sizes, &table, &mut *work);
     let sites = q.sites.count as u64;
     let trials = sites * joins;
     let at = place(whole(q.joins.count + 1), q.target);
     let cell = work[at];
     if cell < NONE {
-        let cost = cell - last_reading(q);
-        let length = write_plan(q, masks, lines, &*work, &mut *plan);
+        let length = write_plan(&board, &q.sizes, &*work, &mut *plan, q.target);
         return Solved::Found {
-            cost: Charge(cost),
+            cost: Charge(cell),
             length,
             trials,
         };

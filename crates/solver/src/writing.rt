@@ -1,26 +1,37 @@
-// Writing the plan from Delivered(all, query site) down: delivered and joined call each other, over fewer relations each time.
-// The query is lent list by list: by value it would be copied at each call.
-use crate::bare::home_of;
-use crate::bare::only;
-use crate::carrying::Carriages;
-use crate::filling::Masks;
-use crate::joining::base;
-use crate::joining::best_join;
-use crate::joining::start_row;
-use crate::reading::size_of;
-use crate::sending::best_site;
-use query::Query;
+// How a plan is read off the cells, from Delivered(all, query site) down: delivered and joined call each other, over fewer relations each time.
+use crate::board::ends_at;
+use crate::board::homes_at;
+use crate::board::joins_of;
+use crate::board::side_at;
+use crate::board::sites_of;
+use crate::cells::Choice;
+use crate::cells::NONE;
+use crate::cells::better;
+use crate::delivering::carriage;
+use crate::rows::joined_row;
+use crate::trials::size_of;
+use crate::trials::trial;
+use query::Bytes;
+use relations::bit;
+use relations::single;
 use relations::whole;
+use relations::within;
 ghost use Prim.Native.Nat.{ℕ, _+_, _^_, _≤_, _<_};
 ghost use mathlib.Core.Path.{_≡_};
 ghost use mathlib.Core.List.{[], _∷_, _++_};
 ghost use lib.ListN.{length, getD, drop};
 ghost use Rattle.query.specs.declared.Query.{Query};
-ghost use Rattle.query.specs.Query.{Valid, relationsOf, UpTo};
+ghost use Rattle.query.specs.Choice.{pick};
+ghost use Rattle.query.specs.Query.{relationsOf};
 ghost use Rattle.query.specs.Cost.{some};
+ghost use Rattle.rules.specs.Plans.{longestPlan};
 ghost use Rattle.tables.specs.Tables.{cheapest};
 ghost use Rattle.tables.specs.Plan.{sendIfDue, writtenDelivered, writtenJoined, stepBytes, written};
-ghost use Rattle.solver.specs.Code.{MasksOf, CarriagesOf, Filled, Wrote, lent, Joinable, baseAt, joinTrial, placeOf, lists, siteBy, Choosable, ToDeliver, ToJoin};
+ghost use Rattle.solver.specs.Cells.{Marked};
+ghost use Rattle.solver.specs.Board.{joinsAt};
+ghost use Rattle.solver.specs.Trials.{lent, Carriable, siteIn};
+ghost use Rattle.solver.specs.Filling.{LaidOut, Filled};
+ghost use Rattle.solver.specs.Writing.{joinsWithin, Wrote, ToDeliver, ToJoin, siteBy, joinBy};
 
 // Writes a step: its kind and its argument.
 fn put(out: &mut [u8], at: usize, kind: u8, arg: usize) -> usize
@@ -43,229 +54,157 @@ fn put_send(out: &mut [u8], at: usize, k: usize, t: usize) -> usize
     put(out, at, 2, t)
 }
 
+// Join e as a bit where it lies in the set, else nothing.
+fn bit_within(inside: bool, e: usize) -> usize
+    requires { ⌜ e < 8 ⌝ }
+    ensures { λ r. ⌜ (r ≡ pick inside (2 ^ e) 0) × (r < 256) ⌝ }
+{
+    if inside { single(e) } else { 0 }
+}
+
+// The joins in a set, as bits.
+fn joins_within(board: &[u64; 256], set: usize) -> usize
+    requires { ⌜ joinsAt (now board) ≤ 8 ⌝ }
+    ensures { λ r. ⌜ (r ≡ joinsWithin (now (board .entry)) set (joinsAt (now (board .entry)))) × (r < 256) ⌝ }
+{
+    let joins = joins_of(board);
+    let mut found = 0;
+    let mut e = 0;
+    while e < joins {
+        found = found + bit_within(within(set, ends_at(board, e)), e);
+        e += 1;
+    }
+    found
+}
+
+// The lowest site of the least figure at t, by what a set has cost at each site.
+fn best_site(board: &[u64; 256], row: &[u64; 8], size: Bytes, t: usize) -> usize
+    requires { ⌜ Marked (now row) × (Carriable (now board) (size .0) × (t < 8)) ⌝ }
+    ensures { λ r. ⌜ r ≡ siteIn (λ (k : ℕ). getD (now (row .entry)) k 0) (now (board .entry)) (size .0) t ⌝ }
+{
+    let sites = sites_of(board);
+    let mut best = Choice {
+        figure: NONE,
+        at: 0,
+    };
+    let mut k = 0;
+    while k < sites {
+        let sent = carriage(board, size, k, t);
+        best = better(row[k] + sent.0, k, best);
+        k += 1;
+    }
+    best.at
+}
+
 // The site where a set is joined for delivery at t.
-fn join_site<'a, 'b, 'c>(
-    home: &'a [usize; 9],
+fn join_site<'a>(
+    board: &'a [u64; 256],
     sizes: &'a [u64; 512],
-    may: &'a [u64; 8],
-    fixed: &'a [u64; 8],
-    rate: &'a [u64; 8],
-    ends: &'b [usize; 8],
-    sides: &'b [usize; 8],
-    line_fixed: &'c [u64; 64],
-    line_rate: &'c [u64; 64],
-    joins: usize,
-    sites: usize,
     work: &[u64],
     set: usize,
     t: usize,
 ) -> usize
-    requires { ⌜ Choosable (lists (now home) (now sizes) (now may) (now fixed) (now rate) (now ends) (now sides) (now «line_fixed») (now «line_rate») joins sites (now work)) set × (t < 8) ⌝ }
-    ensures { λ r.
-        ⌜ r ≡ siteBy (lists (now (home .entry)) (now (sizes .entry)) (now (may .entry)) (now (fixed .entry)) (now (rate .entry)) (now (ends .entry)) (now (sides .entry)) (now («line_fixed» .entry)) (now («line_rate» .entry)) joins sites (now (work .entry))) set t ⌝ }
+    requires { ⌜ ((q : Query) × (ToDeliver _+_ q (lent (now board) (now sizes) (now work)) set t)) ⌝ }
+    ensures { λ r. ⌜ r ≡ siteBy _+_ (lent (now (board .entry)) (now (sizes .entry)) (now (work .entry))) set t ⌝ }
 {
-    let size = size_of(sizes, set);
-    let row = start_row(
-        work,
-        ends,
-        sides,
-        home,
-        may,
-        fixed,
-        rate,
-        size,
-        joins,
-        sites,
-        set,
-    );
-    let best = best_site(&row, line_fixed, line_rate, size, sites, t);
-    best.at
+    let row = joined_row(board, sizes, work, set, joins_within(board, set));
+    best_site(board, &row, size_of(sizes, set), t)
 }
 
 // The join that is taken last for a set at site k.
-fn last_join<'a, 'b>(
+fn last_join<'a>(
+    board: &'a [u64; 256],
     sizes: &'a [u64; 512],
-    fixed: &'a [u64; 8],
-    rate: &'a [u64; 8],
-    ends: &'b [usize; 8],
-    sides: &'b [usize; 8],
-    joins: usize,
     work: &[u64],
     set: usize,
     k: usize,
 ) -> usize
-    requires { ⌜ Joinable (lent (now work) (now ends) (now sides)) set joins (k + 1) × (UpTo 1000000000 (now sizes) × (UpTo 1000000 (now fixed) × UpTo 1000 (now rate))) ⌝ }
-    ensures { λ r.
-        ⌜ r ≡ placeOf (joinTrial (lent (now (work .entry)) (now (ends .entry)) (now (sides .entry))) (baseAt (now (fixed .entry)) (now (rate .entry)) (getD (now (sizes .entry)) set 0) k) set k) joins ⌝ }
+    requires { ⌜ ((q : Query) × (ToJoin _+_ q (lent (now board) (now sizes) (now work)) set k)) ⌝ }
+    ensures { λ r. ⌜ r ≡ joinBy _+_ (lent (now (board .entry)) (now (sizes .entry)) (now (work .entry))) set k ⌝ }
 {
-    let charge = base(fixed[k], rate[k], size_of(sizes, set));
-    best_join(work, ends, sides, charge, joins, set, k)
+    let joins = joins_within(board, set);
+    let mut best = Choice {
+        figure: NONE,
+        at: 0,
+    };
+    let mut e = 0;
+    while e < 8 {
+        if bit(joins, e) == 1 {
+            let part = set & side_at(board, e);
+            best = better(trial(board, sizes, work, part, set - part, k), e, best);
+            e += 1;
+            continue;
+        }
+        e += 1;
+    }
+    best.at
 }
 
 // Writes the steps that deliver a set at t: the load for one relation, else those of its join; then a send if one is due.
-fn write_delivered<'a, 'b, 'c>(
-    home: &'a [usize; 9],
+fn write_delivered<'a>(
+    board: &'a [u64; 256],
     sizes: &'a [u64; 512],
-    may: &'a [u64; 8],
-    fixed: &'a [u64; 8],
-    rate: &'a [u64; 8],
-    ends: &'b [usize; 8],
-    sides: &'b [usize; 8],
-    line_fixed: &'c [u64; 64],
-    line_rate: &'c [u64; 64],
-    joins: usize,
-    sites: usize,
     work: &[u64],
     out: &mut [u8],
     at: usize,
     set: usize,
     t: usize,
 ) -> usize
-    requires { ⌜ ((q : Query) × (ToDeliver q (lists (now home) (now sizes) (now may) (now fixed) (now rate) (now ends) (now sides) (now «line_fixed») (now «line_rate») joins sites (now work)) set t × (at + length (stepBytes (writtenDelivered _+_ q set t)) ≤ length (now out)))) ⌝ }
+    requires { ⌜ ((q : Query) × (ToDeliver _+_ q (lent (now board) (now sizes) (now work)) set t × (at + length (stepBytes (writtenDelivered _+_ q set t)) ≤ length (now out)))) ⌝ }
     ensures { λ r.
-        ⌜ ((q : Query) → ToDeliver q (lists (now (home .entry)) (now (sizes .entry)) (now (may .entry)) (now (fixed .entry)) (now (rate .entry)) (now (ends .entry)) (now (sides .entry)) (now («line_fixed» .entry)) (now («line_rate» .entry)) joins sites (now (work .entry))) set t →
+        ⌜ ((q : Query) → ToDeliver _+_ q (lent (now (board .entry)) (now (sizes .entry)) (now (work .entry))) set t →
         Wrote (now (out .entry)) at (stepBytes (writtenDelivered _+_ q set t)) r (now (out .exit))) ⌝ }
 {
     if usize::count_ones(set) == 1 {
-        let start = home_of(home, set);
-        let next = put(&mut *out, at, 1, only(set));
-        return put_send(&mut *out, next, start, t);
+        let r = usize::trailing_zeros(set) as usize;
+        let home = usize::trailing_zeros(homes_at(board, r)) as usize;
+        let next = put(&mut *out, at, 1, r);
+        return put_send(&mut *out, next, home, t);
     }
-    let k = join_site(
-        home,
-        sizes,
-        may,
-        fixed,
-        rate,
-        ends,
-        sides,
-        line_fixed,
-        line_rate,
-        joins,
-        sites,
-        work,
-        set,
-        t,
-    );
-    let next = write_joined(
-        home,
-        sizes,
-        may,
-        fixed,
-        rate,
-        ends,
-        sides,
-        line_fixed,
-        line_rate,
-        joins,
-        sites,
-        work,
-        &mut *out,
-        at,
-        set,
-        k,
-    );
+    let k = join_site(board, sizes, work, set, t);
+    let next = write_joined(board, sizes, work, &mut *out, at, set, k);
     put_send(&mut *out, next, k, t)
 }
 
 // Writes the steps that join a set at k: the part with the join's first relation, the other part and the join.
-fn write_joined<'a, 'b, 'c>(
-    home: &'a [usize; 9],
+fn write_joined<'a>(
+    board: &'a [u64; 256],
     sizes: &'a [u64; 512],
-    may: &'a [u64; 8],
-    fixed: &'a [u64; 8],
-    rate: &'a [u64; 8],
-    ends: &'b [usize; 8],
-    sides: &'b [usize; 8],
-    line_fixed: &'c [u64; 64],
-    line_rate: &'c [u64; 64],
-    joins: usize,
-    sites: usize,
     work: &[u64],
     out: &mut [u8],
     at: usize,
     set: usize,
     k: usize,
 ) -> usize
-    requires { ⌜ ((q : Query) × (ToJoin q (lists (now home) (now sizes) (now may) (now fixed) (now rate) (now ends) (now sides) (now «line_fixed») (now «line_rate») joins sites (now work)) set k × (at + length (stepBytes (writtenJoined _+_ q set k)) ≤ length (now out)))) ⌝ }
+    requires { ⌜ ((q : Query) × (ToJoin _+_ q (lent (now board) (now sizes) (now work)) set k × (at + length (stepBytes (writtenJoined _+_ q set k)) ≤ length (now out)))) ⌝ }
     ensures { λ r.
-        ⌜ ((q : Query) → ToJoin q (lists (now (home .entry)) (now (sizes .entry)) (now (may .entry)) (now (fixed .entry)) (now (rate .entry)) (now (ends .entry)) (now (sides .entry)) (now («line_fixed» .entry)) (now («line_rate» .entry)) joins sites (now (work .entry))) set k →
+        ⌜ ((q : Query) → ToJoin _+_ q (lent (now (board .entry)) (now (sizes .entry)) (now (work .entry))) set k →
         Wrote (now (out .entry)) at (stepBytes (writtenJoined _+_ q set k)) r (now (out .exit))) ⌝ }
 {
-    let e = last_join(sizes, fixed, rate, ends, sides, joins, work, set, k);
-    let part = set & sides[e];
+    let e = last_join(board, sizes, work, set, k);
+    let part = set & side_at(board, e);
     let rest = set - part;
-    let next = write_delivered(
-        home,
-        sizes,
-        may,
-        fixed,
-        rate,
-        ends,
-        sides,
-        line_fixed,
-        line_rate,
-        joins,
-        sites,
-        work,
-        &mut *out,
-        at,
-        part,
-        k,
-    );
-    let last = write_delivered(
-        home,
-        sizes,
-        may,
-        fixed,
-        rate,
-        ends,
-        sides,
-        line_fixed,
-        line_rate,
-        joins,
-        sites,
-        work,
-        &mut *out,
-        next,
-        rest,
-        k,
-    );
+    let next = write_delivered(board, sizes, work, &mut *out, at, part, k);
+    let last = write_delivered(board, sizes, work, &mut *out, next, rest, k);
     put(&mut *out, last, 3, e)
 }
 
 // Writes the plan: its count of steps, then the steps.
-pub(crate) fn write_plan(
-    q: Query,
-    masks: Masks,
-    carriages: Carriages,
+pub(crate) fn write_plan<'a>(
+    board: &'a [u64; 256],
+    sizes: &'a [u64; 512],
     work: &[u64],
     out: &mut [u8],
+    target: usize,
 ) -> usize
-    requires { ⌜ Valid q × Filled q (now work) (2 ^ relationsOf q) ⌝ }
-    requires { ⌜ MasksOf q (masks .ends) (masks .sides) × CarriagesOf q (carriages .fixed) (carriages .rate) ⌝ }
-    requires { ⌜ ((c : ℕ) × (cheapest _+_ q ≡ some c)) × (69 ≤ length (now out)) ⌝ }
-    ensures { λ r. ⌜ (r ≡ length (written _+_ q)) × (now (out .exit) ≡ written _+_ q ++ drop (length (written _+_ q)) (now (out .entry))) ⌝ }
+    requires { ⌜ ((q : Query) × ((LaidOut q (lent (now board) (now sizes) (now work)) × Filled _+_ q (now work) (2 ^ relationsOf q)) × ((q .target ≡ target) × (((c : ℕ) × (cheapest _+_ q ≡ some c)) × (longestPlan ≤ length (now out)))))) ⌝ }
+    ensures { λ r.
+        ⌜ ((q : Query) → LaidOut q (lent (now (board .entry)) (now (sizes .entry)) (now (work .entry))) → Filled _+_ q (now (work .entry)) (2 ^ relationsOf q) → q .target ≡ target →
+        (c : ℕ) → cheapest _+_ q ≡ some c →
+        (r ≡ length (written _+_ q)) × (now (out .exit) ≡ written _+_ q ++ drop (length (written _+_ q)) (now (out .entry)))) ⌝ }
 {
-    let every = whole(q.joins.count + 1);
-    let end = write_delivered(
-        &q.relations.home,
-        &q.sizes,
-        &q.sites.may,
-        &q.sites.fixed,
-        &q.sites.rate,
-        &masks.ends,
-        &masks.sides,
-        &carriages.fixed,
-        &carriages.rate,
-        q.joins.count,
-        q.sites.count,
-        work,
-        &mut *out,
-        1,
-        every,
-        q.target,
-    );
+    let every = whole(joins_of(board) + 1);
+    let end = write_delivered(board, sizes, work, &mut *out, 1, every, target);
     out[0] = ((end - 1) / 2) as u8;
     end
 }

@@ -1,9 +1,8 @@
--- `price::read` meets its contract: each way through it is a case of the definition. Assumes nothing.
+-- `price::read` meets its contract: a mask takes all of a size or nothing. Assumes nothing.
 use borrow.Author.Needs.{needs}
-use Rattle.query.specs.Prices.{read}
+use Rattle.query.proofs.Prices.{masked}
 use Rattle.query.proofs.price.read.Statement.{statement}
 use Rattle.query.proofs.price.read.Tie as tie
 
 pub read-spec : {M : Type 1} → statement M
-unfolding read
-read-spec = tie.close (tie.spec (λ c. search needs) (λ c. search needs))
+read-spec = tie.close (tie.spec (λ c. masked _ _ (c .before .pre .0) (c .before .pre .1)))

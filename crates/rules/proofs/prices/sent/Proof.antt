@@ -1,6 +1,6 @@
 -- `prices::sent` meets its contract: the line's price is that of its amounts, each within its limit. Assumes nothing.
 use borrow.Author.Needs.{needs}
-use Rattle.rules.proofs.Pricing.{up-to, sent-is}
+use Rattle.rules.proofs.Pricing.{amount-low, up-to, sent-fits, sent-is}
 use Rattle.query.specs.Query.{lineFixed, lineRate, size}
 use Rattle.rules.proofs.prices.sent.Statement.{statement}
 use Rattle.rules.proofs.prices.sent.Tie as tie
@@ -13,6 +13,6 @@ sent-spec =
     (λ c κs. search needs)
     (λ c κs. search needs)
     (λ c κs. search needs)
-    (λ c κs. (search (needs, up-to), (search (needs, up-to), search needs)))
-    (λ c. search needs)
+    (λ c κs. (search (needs, amount-low), (search (needs, up-to), search needs)))
+    (λ c. search (needs, sent-fits))
     (λ c. search (needs, sent-is)))

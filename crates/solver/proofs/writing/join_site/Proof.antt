@@ -1,6 +1,7 @@
--- `writing::join_site` meets its contract: the row that the set starts from is worked out again, and the lowest site of the least figure is chosen. Assumes nothing.
+-- `writing::join_site` meets its contract: the row of the joins is worked out again, and the lowest site of the least figure is chosen. Assumes nothing.
 use borrow.Author.Needs.{needs}
-use Rattle.solver.proofs.Agree.{row-most, site-by}
+use Rattle.rules.proofs.Combinations.{plus-combines}
+use Rattle.solver.proofs.Choices.{known-low, few-joins, few-sites, site-low, joinable, carriable, site-by}
 use Rattle.solver.proofs.writing.join_site.Statement.{statement}
 use Rattle.solver.proofs.writing.join_site.Tie as tie
 
@@ -8,11 +9,11 @@ pub join-site-spec : {M : Type 1} → statement M
 join-site-spec =
     tie.close
     (tie.spec
-    (λ c κs. search needs)
-    (λ c κs. let s = c .before .before in let p = s .pre .0 in
-    ((p .joinable, p .home-low), (p .fixed-most, (p .rate-most, rw (c .size-of .ensures) (p .sizes-most (s .args .set))))))
-    (λ c κs. let s = c .before .before .before .before in let p = s .pre .0 in let size = c .before .before .size-of .ensures in (
-      row-most _ _ _ _ p size (c .before .start-row .ensures),
-      (record { fixed-most = p .line-fixed-most; rate-most = p .line-rate-most; size-most = rw size (p .sizes-most (s .args .set)) }, s .pre .1),
-    ))
-    (λ c. site-by _ _ _ _ (c .before .before .before .before .before .pre .0) (c .before .before .before .size-of .ensures) (c .before .before .start-row .ensures) _ _ (c .best-site .ensures)))
+    (λ c κs. search (needs, few-joins, plus-combines))
+    (λ c κs. search (needs, joinable, plus-combines))
+    (λ c κs. search (needs, known-low, plus-combines))
+    (λ c κs. let p = c .before .before .before .before .before .pre in
+    (search needs, (carriable _ plus-combines (p .0) _ _ (p .1 .known) _ (c .size-of .ensures), search (needs, site-low, plus-combines))))
+    (λ c. let joined = c .before .before .before in let p = joined .before .before .before .pre in
+    site-by _ _ _ _ _ _ _ _ (joined .before .joins-within .ensures .0) (joined .joined-row .ensures .0) (c .before .size-of .ensures)
+    (few-sites _ plus-combines (p .0) _ _ (p .1 .known)) (c .best-site .ensures)))

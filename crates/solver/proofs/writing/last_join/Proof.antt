@@ -1,20 +1,38 @@
--- `writing::last_join` meets its contract: the lowest join of the least figure, with the charge of the set at the site. Assumes nothing.
-use native.Mathlib.Omega.{arith}
-use Rattle.solver.proofs.Agree.{join-by}
+-- `writing::last_join` meets its contract: each turn weighs one join more, and those that are not in the set change nothing. Assumes nothing.
+use Prim.Native.Nat.{_+_, _-_, _≤_}
+use lib.Bits.{and-le-l}
+use borrow.Author.Needs.{needs}
+use Rattle.rules.proofs.Combinations.{plus-combines}
+use Rattle.solver.specs.Cells.{ChoiceOf}
+use Rattle.solver.specs.Trials.{lent, joinTrial}
+use Rattle.solver.proofs.Figures.{choice-none}
+use Rattle.solver.proofs.Choices.{few-joins, triable, join-better, join-worse, join-by}
 use Rattle.solver.proofs.writing.last_join.Statement.{statement}
 use Rattle.solver.proofs.writing.last_join.Tie as tie
+
+abbrev Inv-loop : tie.InvT-loop
+Inv-loop board sizes work set k joins best₀ e₀ best e = (e ≤ 8) × ChoiceOf (joinTrial _+_ (lent board sizes work) joins set k) e best
+
+abbrev μ-loop : tie.MeasureT-loop
+μ-loop board sizes work set k joins best₀ e₀ best e = 8 - e
 
 pub last-join-spec : {M : Type 1} → statement M
 last-join-spec =
     tie.close
     (tie.spec
-    (λ c. omega (arith, c .before .pre .0 .few-sites))
-    (λ c. omega (arith, c .before .pre .0 .few-sites))
-    (λ c. omega (arith, c .before .before .pre .0 .few-sites))
-    (λ c. omega (arith, c .before .before .pre .0 .few-sites))
-    (λ c κs. c .before .before .before .pre .0 .set-in)
-    (λ c κs. let s = c .before .before .before .before in let p = s .pre .1 in
-    (p .1 .0 (s .args .k), (p .1 .1 (s .args .k), rw (c .size-of .ensures) (p .0 (s .args .set)))))
-    (λ c κs. (c .before .before .before .before .before .pre .0, omega (arith, c .base .ensures .1)))
-    (λ c. let s = c .before .before .before .before .before .before in
-    join-by _ (s .args .fixed .now) (s .args .rate .now) (s .args .sizes .now) (s .args .set) (s .args .k) _ _ _ _ (c .before .before .size-of .ensures) (c .before .base .ensures .0) (c .best-join .ensures)))
+    Inv-loop
+    μ-loop
+    (λ c κs. search (needs, few-joins, plus-combines))
+    (λ c. search (needs, choice-none))
+    (λ c κs. search needs)
+    (λ c κs. search needs)
+    (λ c. and-le-l _ _)
+    (λ c κs. search (needs, triable, plus-combines))
+    (λ c κs. search needs)
+    (λ c. search needs)
+    (λ c. search needs)
+    (λ c. (search needs, search (needs, join-better)))
+    (λ c. search needs)
+    (λ c. search needs)
+    (λ c. (search needs, search (needs, join-worse)))
+    (λ c. search (needs, join-by)))

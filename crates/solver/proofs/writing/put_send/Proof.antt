@@ -12,6 +12,8 @@ put-send-spec =
     tie.close
     (tie.spec
     (λ c. send-none _ _ _ _ (c .if1 .taken))
-    (λ c κs. let s = c .before .before .before in (omega (arith, ap length (send-bytes (s .args .k) (s .args .t) (c .before .if1 .left)), s .pre .0), s .pre .1))
+    (λ c κs. let s = c .before .before .before in
+    (omega (arith, ap length (send-bytes (s .args .k) (s .args .t) (c .before .if1 .left)), s .pre .0), s .pre .1))
     (λ c. search needs)
-    (λ c. let s = c .before .before .before .before .before .before in rw (send-bytes (s .args .k) (s .args .t) (c .before .before .before .before .if1 .left)) (c .before .before .put .ensures)))
+    (λ c. let put = c .before .before in let other = put .before .before in let s = other .before .before in
+    rw (send-bytes (s .args .k) (s .args .t) (other .if1 .left)) (put .put .ensures)))

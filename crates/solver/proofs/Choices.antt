@@ -1,0 +1,135 @@
+-- The writer's choices: each turn of their loops weighs one site or one join more, a choice among the figures of a row is one among what the row was
+-- worked out from, and a query whose cells are filled gives all that the choices ask.
+use Prim.Native.Nat.{ℕ, zero, suc, _+_, _-_, _^_, _≤_, _<_}
+use native.Mathlib.Nat.{le-refl, le-antisymm, pow-suc}
+use native.Mathlib.Numerals.{add-one}
+use native.Mathlib.Omega.{arith}
+use mathlib.Core.Path.{_≡_, refl, sym, ap, _∙_}
+use mathlib.Core.Bool.{Bool, true, false}
+use mathlib.Core.List.{List}
+use lib.Bits.{bitAnd}
+use lib.Dec.{eqb}
+use lib.ListN.{getD}
+use lib.Pow.{pow-mono, pow-lt}
+use mir.Syntax.{w64}
+use mir.Val.{Fits}
+use borrow.Author.Tests.{eq-eqb, ne-eqb}
+use Rattle.relations.specs.Sets.{bit}
+use Rattle.relations.proofs.Connected.{subquery-range}
+use Rattle.relations.proofs.Turns.{below-512}
+use Rattle.query.specs.declared.Query.{Query}
+use Rattle.query.specs.Choice.{pick}
+use Rattle.query.specs.Query.{relationsOf, sitesOf}
+use Rattle.rules.specs.Combine.{Combines}
+use Rattle.solver.specs.declared.cells.Choice.{Choice}
+use Rattle.solver.specs.Cells.{noneMark, placeOf, ChoiceOf, betterOf, Lanes, Marked}
+use Rattle.solver.specs.Board.{endsAt, sideAt, joinsAt, sitesAt}
+use Rattle.solver.specs.Trials.{Lent, sizeIn, trialOf, Triable, joinTrial, Joinable, joinedIn, carriageIn, Carriable, siteTrial, siteIn}
+use Rattle.solver.specs.Filling.{Filled}
+use Rattle.solver.specs.Writing.{joinsWithin, siteBy, joinBy, Known}
+use Rattle.solver.proofs.Figures.{choice-more, choice-same, place-same}
+use Rattle.solver.proofs.Columns as columns
+
+-- The joins in a set as bits, one more each turn: below 2^m after m of them.
+pub bit-is : (inside : Bool) (e r : ℕ) → inside ≡ true → r ≡ 2 ^ e → e < 8 → (r ≡ pick inside (2 ^ e) 0) × (r < 256)
+bit-is inside e r held is low = (rw (held, is), rw is (pow-lt low))
+
+pick-le : (inside : Bool) (n : ℕ) → pick inside n 0 ≤ n
+pick-le true n = le-refl _
+pick-le false n = omega arith
+
+within-below : (b : List ℕ) (S m : ℕ) → joinsWithin b S m < 2 ^ m
+unfolding joinsWithin
+within-below b S zero = omega arith
+within-below b S (suc m) = omega (arith, within-below b S m, pick-le (eqb (bitAnd S (endsAt b m)) (endsAt b m)) (2 ^ m), pow-suc 2 m)
+
+module _ (b : List ℕ) (S m found : ℕ) (is : found ≡ joinsWithin b S m) where
+  within-few : m ≤ 8 → found < 256
+  within-few h = omega (arith, within-below b S m, pow-mono h)
+
+  pub within-fits : (s n r : ℕ) → m < s → s ≡ n → n ≤ 8 → r < 256 → Fits w64 (found + r)
+  within-fits s n r h end few low = let most : m ≤ 8 = omega arith in record { fits = omega (arith, within-few most) }
+
+  pub within-more : (ends r : ℕ) (d : Bool) → ends ≡ endsAt b m → d ≡ eqb (bitAnd S ends) ends → r ≡ pick d (2 ^ m) 0 → found + r ≡ joinsWithin b S (m + 1)
+  unfolding joinsWithin
+  within-more ends r d ends-are d-is r-is = rw (add-one m, is, r-is, d-is, ends-are)
+
+  pub within-done : (s n : ℕ) → m ≤ s → s ≤ m → s ≡ n → n ≤ 8 → (found ≡ joinsWithin b S n) × (found < 256)
+  within-done s n le ge end few = (is ∙ ap (joinsWithin b S) (le-antisymm le ge ∙ end), within-few (omega arith))
+
+pub within-none : (b : List ℕ) (S : ℕ) → 0 ≡ joinsWithin b S 0
+unfolding joinsWithin
+within-none b S = refl
+
+-- The last turn.
+pub choice-done : (g : ℕ → ℕ) (k s m : ℕ) (c : Choice) → ChoiceOf g k c → k ≤ s → s ≤ k → s ≡ m → c .at ≡ placeOf g m
+choice-done g k s m c h le ge is = h .at-is ∙ ap (placeOf g) (le-antisymm le ge ∙ is)
+
+-- The sites, one after the other.
+pub site-more : (row : ℕ → ℕ) (b : List ℕ) (size t k x r : ℕ) (kept made : Choice) → ChoiceOf (siteTrial row b size t) k kept → x ≡ row k →
+    r ≡ carriageIn b size k t → made ≡ betterOf (x + r) k kept → ChoiceOf (siteTrial row b size t) (k + 1) made
+unfolding siteTrial
+site-more row b size t k x r kept made c x-is r-is made-is = choice-more _ k (x + r) kept made c (rw (x-is, r-is)) made-is
+
+pub site-fits : (row b : List ℕ) (size k s x : ℕ) → Marked row → Carriable b size → k < s → s ≡ sitesAt b → x ≤ noneMark + 1_000_000_000_000 →
+    Fits w64 (getD row k 0 + x)
+site-fits row b size k s x marked lines h is most = record { fits = omega (arith, marked .most k (omega (arith, lines .few)), most) }
+
+-- The joins in S, as the writer works them out.
+abbrev within : Lent → ℕ → ℕ
+within l S = joinsWithin (l .board) S (joinsAt (l .board))
+
+module _ (combine : ℕ → ℕ → ℕ) (l : Lent) (S : ℕ) where
+  -- A choice among what a row holds is one among the figures that the row was worked out from.
+  pub site-by : (row : List ℕ) (joins x t r : ℕ) → joins ≡ within l S → Lanes row (joinedIn combine l joins S) → x ≡ sizeIn l S → sitesAt (l .board) ≤ 8 →
+      r ≡ siteIn (λ (k : ℕ). getD row k 0) (l .board) x t → r ≡ siteBy combine l S t
+  unfolding siteTrial
+  site-by row joins x t r joins-are lanes x-is few is =
+      is ∙ place-same _ _ (sitesAt (l .board)) (λ k m. rw (lanes .each k (omega arith), joins-are, x-is))
+
+  -- The joins, one after the other: one that is not in the set changes nothing.
+  module _ (joins k e d : ℕ) (kept : Choice) (c : ChoiceOf (joinTrial combine l joins S k) e kept) (is : d ≡ bit joins e) where
+    pub join-better : (side r : ℕ) (made : Choice) → d ≡ 1 → side ≡ sideAt (l .board) e → r ≡ trialOf combine l (bitAnd S side) (S - bitAnd S side) k →
+        made ≡ betterOf r e kept → ChoiceOf (joinTrial combine l joins S k) (e + 1) made
+    unfolding joinTrial
+    join-better side r made one side-is r-is made-is =
+        choice-more _ e r kept made c (r-is ∙ rw (side-is, eq-eqb (bit joins e) 1 (sym is ∙ one))) made-is
+
+    pub join-worse : (d ≡ 1 → ⊥) → ChoiceOf (joinTrial combine l joins S k) (e + 1) kept
+    unfolding joinTrial
+    join-worse none = choice-same _ e kept c (rw (ne-eqb (bit joins e) 1 (λ h. none (is ∙ h))))
+
+  pub join-by : (joins k e : ℕ) (c : Choice) → joins ≡ within l S → ChoiceOf (joinTrial combine l joins S k) e c → e ≤ 8 → 8 ≤ e → c .at ≡ joinBy combine l S k
+  join-by joins k e c joins-are h le ge = rw (← joins-are) (choice-done (joinTrial combine l joins S k) e 8 8 c h le ge refl)
+
+-- What the choices ask of a query whose cells are filled.
+module _ (combine : ℕ → ℕ → ℕ) (C : Combines combine) (q : Query) (l : Lent) (S : ℕ) (k : Known combine q l S) where
+  low : S < 2 ^ relationsOf q
+  low = subquery-range (q .joins) (relationsOf q) S (k .subquery) .1
+
+  pub known-low : S < 512
+  known-low = below-512 S (relationsOf q) (k .laid .valid .relations-most) low
+
+  pub filled-here : Filled combine q (l .work) S
+  filled-here = record { room = k .filled .room; each = λ T t h s m. k .filled .each T t (omega (arith, low)) s m }
+
+  pub few-joins : joinsAt (l .board) ≤ 8
+  few-joins = let v = k .laid .valid in omega (arith, k .laid .board .joins, v .tree .joins, v .relations-most)
+
+  pub carriable : (x : ℕ) → x ≡ sizeIn l S → Carriable (l .board) x
+  carriable x is = rw is (columns.carriable combine C q l (k .laid) S (k .subquery))
+
+  pub few-sites : sitesAt (l .board) ≤ 8
+  few-sites = omega (arith, k .laid .board .sites, k .laid .valid .sites-most)
+
+  pub site-low : (t : ℕ) → t < sitesOf q → t < 8
+  site-low t h = omega (arith, k .laid .valid .sites-most)
+
+  pub joinable : (joins : ℕ) → joins ≡ within l S → Joinable l joins S
+  joinable joins is =
+      rw (is, columns.within-is combine C q l (k .laid) S (k .subquery)) (columns.startable combine C q l (k .laid) S (k .subquery) filled-here .joinable)
+
+  pub triable : (joins e d side i : ℕ) → joins ≡ within l S → e < 8 → i < sitesOf q → d ≡ bit joins e → d ≡ 1 → side ≡ sideAt (l .board) e →
+      Triable l (bitAnd S side) (S - bitAnd S side) i
+  triable joins e d side i is h listed d-is one side-is =
+      rw side-is (joinable joins is .each e i h (omega (arith, k .laid .valid .sites-most)) (sym d-is ∙ one))

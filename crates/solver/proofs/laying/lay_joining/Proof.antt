@@ -1,0 +1,19 @@
+-- Four rows, each laid once.
+use borrow.Author.Needs.{needs}
+use Rattle.solver.proofs.LaidSteps.{joining-laid}
+use Rattle.solver.proofs.laying.lay_joining.Statement.{statement}
+use Rattle.solver.proofs.laying.lay_joining.Tie as tie
+
+pub lay-joining-spec : {M : Type 1} → statement M
+lay-joining-spec =
+    tie.close
+    (tie.spec
+    (λ c κs. search needs)
+    (λ c κs. search needs)
+    (λ c κs. search needs)
+    (λ c κs. search needs)
+    (λ c κs. search needs)
+    (λ c κs. search needs)
+    (λ c κs. search needs)
+    (λ c. let three = c .before .before .before in let f = three .before in let two = f .before .before .before .before .before in let one = two .before .before .before in
+    joining-laid _ _ _ _ _ _ _ _ _ _ _ (one .before .before .before .pre) (one .before .widened .ensures) (one .lay .ensures) (two .before .widened2 .ensures) (two .lay2 .ensures) (f .fixed-row .ensures) (three .lay3 .ensures) (c .lay4 .ensures)))

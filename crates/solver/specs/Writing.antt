@@ -1,0 +1,54 @@
+-- What the writer asks and leaves: over lists of a query whose cells are filled, its written steps as bytes.
+use Prim.Native.Nat.{ℕ, zero, suc, _+_, _^_, _<_}
+use mathlib.Core.Path.{_≡_}
+use mathlib.Core.List.{List}
+use lib.Bits.{bitAnd}
+use lib.Dec.{eqb}
+use lib.ListN.{length}
+use lib.Seq.{sets}
+use Rattle.relations.specs.Trees.{Subquery}
+use Rattle.query.specs.declared.Query.{Query}
+use Rattle.query.specs.Choice.{pick}
+use Rattle.query.specs.Cost.{some}
+use Rattle.query.specs.Query.{relationsOf, sitesOf}
+use Rattle.tables.specs.Tables.{delivered, joined}
+use Rattle.solver.specs.Cells.{placeOf}
+use Rattle.solver.specs.Board.{endsAt, joinsAt}
+use Rattle.solver.specs.Trials.{Lent, sizeIn, joinTrial, joinedIn, siteIn}
+use Rattle.solver.specs.Filling.{LaidOut, Filled}
+
+-- The joins in S among the first m, as bits, by their ends on the board.
+unfoldable pub joinsWithin : List ℕ → ℕ → ℕ → ℕ
+joinsWithin b S zero = 0
+joinsWithin b S (suc m) = joinsWithin b S m + pick (eqb (bitAnd S (endsAt b m)) (endsAt b m)) (2 ^ m) 0
+
+-- The site where S is joined for delivery at t, and the join that is taken last for S at site k.
+abbrev pub siteBy : (ℕ → ℕ → ℕ) → Lent → ℕ → ℕ → ℕ
+siteBy combine l S t = siteIn (joinedIn combine l (joinsWithin (l .board) S (joinsAt (l .board))) S) (l .board) (sizeIn l S) t
+
+abbrev pub joinBy : (ℕ → ℕ → ℕ) → Lent → ℕ → ℕ → ℕ
+joinBy combine l S k = placeOf (joinTrial combine l (joinsWithin (l .board) S (joinsAt (l .board))) S k) 8
+
+-- Bytes stored one after another from a place on.
+pub record Wrote (old : List ℕ) (at : ℕ) (bytes : List ℕ) (r : ℕ) (new : List ℕ) : Type 0 where
+  pub next : r ≡ at + length bytes
+  pub stored : new ≡ sets old at bytes
+
+-- What is lent is a query's with its cells filled, and S is a subquery of it.
+pub record Known (combine : ℕ → ℕ → ℕ) (q : Query) (l : Lent) (S : ℕ) : Type 0 where
+  pub laid : LaidOut q l
+  pub filled : Filled combine q (l .work) (2 ^ relationsOf q)
+  pub subquery : Subquery (q .joins) (relationsOf q) S
+
+-- S is to be written as it is delivered at t, or as it is joined at k: there is a way.
+pub record ToDeliver (combine : ℕ → ℕ → ℕ) (q : Query) (l : Lent) (S t : ℕ) : Type 0 where
+  pub known : Known combine q l S
+  pub listed : t < sitesOf q
+  pub cost : ℕ
+  pub cost-is : delivered combine q S t ≡ some cost
+
+pub record ToJoin (combine : ℕ → ℕ → ℕ) (q : Query) (l : Lent) (S k : ℕ) : Type 0 where
+  pub known : Known combine q l S
+  pub listed : k < sitesOf q
+  pub cost : ℕ
+  pub cost-is : joined combine q S k ≡ some cost
