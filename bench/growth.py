@@ -70,7 +70,7 @@ page = [
     "",
     *grid(lambda r: f"{r[2]}, {r[3] / 1000:.2f} µs"),
     "",
-    "The same as a ratio to that C at -O2. A small query's time is mostly that of handing over the state by value, which the C does not do.",
+    "The same as a ratio to that C at -O2. A small query's time is mostly that of what does not depend on its size: the board and the table of sets, the state handed over by value, and eight lanes whatever the number of sites.",
     "",
     *grid(lambda r: f"{r[3] / r[4]:.2f}"),
 ]

@@ -9,9 +9,11 @@ use query::Outcome;
 use query::Query;
 use query::Relations;
 use query::Sites;
+use query::amount;
 use query::decode;
 use records::record_at;
 use relations::Joins;
+use relations::wide;
 
 // A number after a space.
 fn number(n: u64) {
@@ -24,22 +26,22 @@ fn end_line() {
 }
 
 // A line of a word and the first numbers of a list.
-fn numbers(word: &[u8], list: &[u64], count: usize) {
+fn numbers(word: &[u8], list: &[u32], count: usize) {
     io::write_all(STDOUT_FILENO, word);
     let mut i = 0;
     while i < count && i < list.len() {
-        number(list[i]);
+        number(amount(list[i]));
         i += 1;
     }
     end_line();
 }
 
-// The same for a list of places.
-fn places(word: &[u8], list: &[usize], count: usize) {
+// The same for a list of flags, sites or relations.
+fn bytes(word: &[u8], list: &[u8], count: usize) {
     io::write_all(STDOUT_FILENO, word);
     let mut i = 0;
     while i < count && i < list.len() {
-        number(list[i] as u64);
+        number(wide(list[i]) as u64);
         i += 1;
     }
     end_line();
@@ -56,10 +58,10 @@ fn size(subquery: usize, bytes: u64) {
     end_line();
 }
 
-fn sizes(list: &[u64]) {
+fn sizes(list: &[u32]) {
     let mut i = 0;
     while i < list.len() {
-        size(i, list[i]);
+        size(i, amount(list[i]));
         i += 1;
     }
 }
@@ -72,23 +74,23 @@ fn line_places(s: usize) -> usize {
 fn show(q: Query, subqueries: usize) {
     let sites: Sites = q.sites;
     let s = sites.count;
-    numbers(b"may", &sites.may, s);
+    bytes(b"may", &sites.may, s);
     numbers(b"fixed", &sites.fixed, s);
     numbers(b"rate", &sites.rate, s);
     let relations: Relations = q.relations;
     let n = relations.count;
-    places(b"home", &relations.home, n);
-    numbers(b"index", &relations.index, n);
+    bytes(b"home", &relations.home, n);
+    bytes(b"index", &relations.index, n);
     let joins: Joins = q.joins;
-    places(b"first", &joins.first, joins.count);
-    places(b"second", &joins.second, joins.count);
+    bytes(b"first", &joins.first, joins.count);
+    bytes(b"second", &joins.second, joins.count);
     io::write_all(STDOUT_FILENO, b"subqueries");
     number(subqueries as u64);
     end_line();
     sizes(&q.sizes);
     let lines: Lines = q.lines;
     let m = line_places(s);
-    numbers(b"open", &lines.flag, m);
+    bytes(b"open", &lines.flag, m);
     numbers(b"line fixed", &lines.fixed, m);
     numbers(b"line rate", &lines.rate, m);
     io::write_all(STDOUT_FILENO, b"target");

@@ -34,10 +34,6 @@ pub needed-enough : (o : Option Query) (n : ℕ) → ampleCells ≤ n → needed
 needed-enough none n h = omega arith
 needed-enough (some q) n h = cells-enough q n h
 
--- The later cells, by the constant and by the query that stands.
-pub cells-past : (q : Query) (new old : List ℕ) → drop ampleCells new ≡ drop ampleCells old → drop (cellsNeeded q) new ≡ drop (cellsNeeded q) old
-cells-past q new old e = rw (cells-needed q) e
-
 pub cells-later :
     (p : Planner) (new old : List ℕ) → p .loaded ≡ true → drop (cellsNeeded (p .query)) new ≡ drop (cellsNeeded (p .query)) old →
     drop (needed (stateOf p .query)) new ≡ drop (needed (stateOf p .query)) old

@@ -6,7 +6,6 @@ use borrow.Author.Tests.{ltb-true, leb-true}
 use lib.Dec.{ltb, leb}
 use native.Mathlib.Omega.{arith}
 use Rattle.relations.proofs.Leads.{both-true}
-use Rattle.query.specs.Decode.{Terms}
 use Rattle.query.specs.Query.{sitesOf}
 use Rattle.query.proofs.Linked.{linked-valid}
 use Rattle.planner.specs.declared.Planner.{Planner}
@@ -32,19 +31,31 @@ module _ (p : Planner) (l : Link) (loaded : p .loaded ≡ true) (t : Bool) (list
     unfolding link
     link-goes r in-range h k m = rw (loaded, ← listed, both-listed, ← ranged, in-range, h, k, m)
 
-terms-fair : (t : Terms) → termsInRange t ≡ true → (t .fixed ≤ 1_000_000) × (t .rate ≤ 1_000)
-unfolding termsInRange
-terms-fair t e =
-    let a = both-true (leb (t .flag) 1 && leb (t .fixed) 1_000_000) (leb (t .rate) 1_000) e in
-    (leb-true _ _ (both-true (leb (t .flag) 1) (leb (t .fixed) 1_000_000) (a .0) .1), leb-true _ _ (a .1))
+-- Terms in range are within their limits.
+module _ (o f r : ℕ) (u : Bool) (ranged : u ≡ termsInRange (record { flag = o; fixed = f; rate = r })) (in-range : u ≡ true) where
+  all-fair : (o ≤ 1) × (f ≤ 1_000_000) × (r ≤ 1_000)
+  unfolding termsInRange
+  all-fair =
+      let a = both-true (leb o 1 && leb f 1_000_000) (leb r 1_000) (sym ranged ∙ in-range) in
+      let b = both-true (leb o 1) (leb f 1_000_000) (a .0) in
+      (leb-true _ _ (b .0), leb-true _ _ (b .1), leb-true _ _ (a .1))
+
+  pub flag-fair : o ≤ 1
+  flag-fair = all-fair .0
+
+  pub fixed-fair : f ≤ 1_000_000
+  fixed-fair = all-fair .1
+
+  pub rate-fair : r ≤ 1_000
+  rate-fair = all-fair .2
 
 pub link-sound :
     (p r : Planner) (l : Link) → Sound p → p .loaded ≡ true → (u : Bool) → u ≡ termsInRange (l .terms) → u ≡ true → r .length ≡ p .length →
     r .query ≡ relinedBy (p .query) l → Sound r
 link-sound p r l s e u ranged in-range h m =
-    let fair = terms-fair (l .terms) (sym ranged ∙ in-range) in
+    let fair = all-fair (l .terms .flag) (l .terms .fixed) (l .terms .rate) u ranged in-range in
     record {
-      valid = λ _. rw m (linked-valid (p .query) (s .valid e) (l .sender) (l .receiver) (l .terms) (fair .0) (fair .1));
+      valid = λ _. rw m (linked-valid (p .query) (s .valid e) (l .sender) (l .receiver) (l .terms) (fair .1) (fair .2));
       short = rw h (s .short);
     }
 

@@ -24,7 +24,7 @@ use Rattle.planner.specs.declared.Planner.{Planner}
 use Rattle.planner.specs.Solve.{found, noRoute, refused, solve, solveAdmitted}
 use Rattle.planner.specs.Contracts.{stateOf, doneOf, Sound}
 use Rattle.planner.proofs.Standing.{standing-valid}
-use Rattle.planner.proofs.Cells.{cells-few, cells-enough, cells-past, cells-later}
+use Rattle.planner.proofs.Cells.{cells-few, cells-enough, cells-later}
 
 pub solve-nothing : (p : Planner) (n : ℕ) → p .loaded ≡ false → doneOf (refused 20) p ≡ solve n (stateOf p)
 unfolding solve
@@ -116,7 +116,6 @@ pub ruleset solving = (
   solve-sound,
   cells-few,
   cells-enough,
-  cells-past,
   cells-later,
   standing-valid,
 )

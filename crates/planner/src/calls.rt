@@ -17,7 +17,7 @@ use query::Outcome;
 use query::Query;
 use rules::Checked;
 use solver::Solved;
-ghost use Prim.Native.Nat.{_<_};
+ghost use Prim.Native.Nat.{_≤_, _<_};
 ghost use mathlib.Core.Path.{_≡_};
 ghost use mathlib.Core.Bool.{false};
 ghost use lib.ListN.{length, drop};
@@ -88,16 +88,17 @@ fn terms_in_range(opened: u64, fixed: u64, rate: u64) -> bool
     (opened <= 1) & (fixed <= MOST_FIXED) & (rate <= MOST_RATE)
 }
 
-// The query with the line from the sender to the receiver replaced.
+// The query with the line from the sender to the receiver replaced, its terms in the types that their limits fit.
 fn relined(q: Query, sender: u64, receiver: u64, opened: u64, fixed: u64, rate: u64) -> Query
     requires { ⌜ (sender < 8) × (receiver < 8) ⌝ }
+    requires { ⌜ (opened ≤ 1) × (fixed ≤ 1000000) × (rate ≤ 1000) ⌝ }
     ensures { λ r. ⌜ r ≡ relinedBy q (linkOf sender receiver opened fixed rate) ⌝ }
 {
     let at = 8 * (sender as usize) + (receiver as usize);
     let mut lines = q.lines;
-    lines.flag[at] = opened;
-    lines.fixed[at] = fixed;
-    lines.rate[at] = rate;
+    lines.flag[at] = opened as u8;
+    lines.fixed[at] = fixed as u32;
+    lines.rate[at] = rate as u32;
     Query { lines, ..q }
 }
 

@@ -1,5 +1,5 @@
 -- The index rule's law: whether a set is read by its index does not depend on the limit that the set is below, as its lowest relation does not.
-use Prim.Native.Nat.{ℕ, _*_, _^_, _≤_, _<_}
+use Prim.Native.Nat.{ℕ, _^_, _≤_, _<_}
 use native.Mathlib.Omega.{arith}
 use mathlib.Core.Path.{_≡_, refl}
 use mathlib.Core.Bool.{Bool, true, false, _&&_}
@@ -10,6 +10,7 @@ use lib.ListN.{length, getD}
 use lib.Count.{ones, trailingZeros, trailing-le}
 use lib.Dec.{eqb}
 use borrow.Author.Tests.{eq-eqb, ne-eqb, eqb-true}
+use Rattle.relations.specs.Code.{mostSets}
 use Rattle.relations.proofs.Counts.{one-some, lowest-same, lowest-below}
 use Rattle.query.specs.declared.Query.{Query}
 use Rattle.query.specs.Query.{home, index, relationsOf}
@@ -35,16 +36,13 @@ indexed-in q n S k h l = indexed-same (relationsOf q) n (q .relations .home) (q 
 pub place-fits : (S : ℕ) → Fits w64 (trailingZeros 64 S)
 place-fits S = record { fits = omega (arith, trailing-le 64 S) }
 
-pub place-bytes : (S : ℕ) → Fits w64 (trailingZeros 64 S * 8)
-place-bytes S = record { fits = omega (arith, trailing-le 64 S) }
-
-nine : (S : ℕ) → ones S ≡ 1 → S < 512 → trailingZeros 9 S ≡ trailingZeros 64 S
+nine : (S : ℕ) → ones S ≡ 1 → S < mostSets → trailingZeros 9 S ≡ trailingZeros 64 S
 nine S e h = lowest-same 9 64 S (one-some S e) h (omega arith)
 
-pub one-of-nine : (S : ℕ) → ones S ≡ 1 → S < 512 → trailingZeros 64 S < 9
+pub one-of-nine : (S : ℕ) → ones S ≡ 1 → S < mostSets → trailingZeros 64 S < 9
 one-of-nine S e h = omega (arith, nine S e h, lowest-below 9 S (one-some S e) h)
 
-pub place-in : (S : ℕ) (l : List ℕ) → ones S ≡ 1 → S < 512 → 9 ≤ length l → trailingZeros 64 S < length l
+pub place-in : (S : ℕ) (l : List ℕ) → ones S ≡ 1 → S < mostSets → 9 ≤ length l → trailingZeros 64 S < length l
 place-in S l e h g = omega (arith, one-of-nine S e h)
 
 module _ (homes indexes : List ℕ) (S k : ℕ) where
@@ -52,10 +50,11 @@ module _ (homes indexes : List ℕ) (S k : ℕ) where
   unfolding indexedIn
   not-one h = rw (ne-eqb (ones S) 1 h)
 
-  pub not-home : ones S ≡ 1 → S < 512 → (getD homes (trailingZeros 64 S) 0 ≡ k → ⊥) → false ≡ indexedIn 9 homes indexes S k
-  unfolding indexedIn
-  not-home e h g = rw (eq-eqb (ones S) 1 e, nine S e h, ne-eqb (getD homes (trailingZeros 64 S) 0) k g)
+  module _ (one : ones S ≡ 1) (low : S < mostSets) (h : ℕ) (is : h ≡ getD homes (trailingZeros 64 S) 0) where
+    pub not-home : (h ≡ k → ⊥) → false ≡ indexedIn 9 homes indexes S k
+    unfolding indexedIn
+    not-home g = rw (eq-eqb (ones S) 1 one, nine S one low, ← is, ne-eqb h k g)
 
-  pub by-flag : ones S ≡ 1 → S < 512 → getD homes (trailingZeros 64 S) 0 ≡ k → eqb (getD indexes (trailingZeros 64 S) 0) 1 ≡ indexedIn 9 homes indexes S k
-  unfolding indexedIn
-  by-flag e h g = rw (eq-eqb (ones S) 1 e, nine S e h, eq-eqb (getD homes (trailingZeros 64 S) 0) k g)
+    pub by-flag : h ≡ k → eqb (getD indexes (trailingZeros 64 S) 0) 1 ≡ indexedIn 9 homes indexes S k
+    unfolding indexedIn
+    by-flag g = rw (eq-eqb (ones S) 1 one, nine S one low, ← is, eq-eqb h k g)

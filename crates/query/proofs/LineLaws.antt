@@ -2,7 +2,7 @@
 use Prim.Native.Nat.{ℕ, _+_, _-_, _*_, _≤_, _<_}
 use native.Mathlib.Nat.{sub-zero, mul-le-mul-right}
 use native.Mathlib.Omega.{arith}
-use mathlib.Core.Path.{_≡_, refl, sym, ap, _∙_}
+use mathlib.Core.Path.{_≡_, sym, ap, _∙_}
 use mathlib.Core.List.{List}
 use lib.ListN.{drop}
 use lib.Seq.{drop-drop}
@@ -18,7 +18,7 @@ use Rattle.query.specs.declared.sections.Outcome.{Outcome}
 use Rattle.query.specs.declared.sections.Outcome.the-variants as outcome
 use Rattle.query.specs.Fields.{Read, refused, value, countField, items, storing}
 use Rattle.query.specs.Decode.{terms, noLines, withLine, line, sender, linesSection}
-use Rattle.query.specs.Code.{fieldOf, termsOf, termsFault, readOf}
+use Rattle.query.specs.Code.{fieldOf, termsOf, termsFault, readOf, linesOf}
 use Rattle.query.proofs.Reading.{field-value}
 use Rattle.query.proofs.ItemLaws.{terms-value, terms-no}
 use Rattle.query.proofs.Loops.{stored-no, stored-on, items-done, items-no, items-on}
@@ -28,7 +28,10 @@ pub sender-start : (s a : ℕ) (ls : Lines) (l : List ℕ) → sender s a ls l �
 unfolding sender
 sender-start s a ls l = rw sub-zero
 
-module _ (answer : Read Lines) (a s b at : ℕ) (ls : Lines) (l : List ℕ) where
+module _ (answer : Read Lines) (a s b at : ℕ) (flags amounts rates l : List ℕ) where
+  abbrev ls : Lines
+  ls = linesOf flags amounts rates
+
   own : a ≡ b → (p : List ℕ) → line a b ls p ≡ value ls p
   unfolding line
   own e p = rw (eq-eqb a b e)
@@ -70,9 +73,9 @@ lines-start s l f v ls e h z = rw (field-value 1 2 (s * (s - 1)) (s * (s - 1)) v
 
 module _ (answer : Read Lines) (s a at used : ℕ) (ls new : Lines) (l p : List ℕ) (o : Outcome) where
   pub sender-no :
-      (k : ℕ) → o ≡ outcome.Refused k → readOf o new used p ≡ sender s a ls p → p ≡ drop at l → answer ≡ items (sender s) (s - a) a ls (drop at l) → a < s →
-      readOf o new used l ≡ answer
-  sender-no k h e q so less =
+      (k u : ℕ) (x : Lines) → o ≡ outcome.Refused k → readOf o new used p ≡ sender s a ls p → p ≡ drop at l → answer ≡ items (sender s) (s - a) a ls (drop at l) →
+      a < s → readOf o x u l ≡ answer
+  sender-no k u x h e q so less =
       let f : refused k ≡ sender s a ls p = rw h at e in
       rw h (items-no (sender s) answer s a ls (drop at l) k so less (ap (sender s a ls) (sym q) ∙ sym f))
 

@@ -2,11 +2,11 @@
 -- range, and each item keeps the ranges of what its section has so far.
 use Prim.Native.Nat.{ℕ, _-_, _+_, _*_, _^_, _≤_}
 use native.Mathlib.Omega.{arith}
-use mathlib.Core.Path.{_≡_}
 use mathlib.Core.List.{List}
-use lib.ListN.{drop, replicate}
+use lib.ListN.{replicate}
 use lib.Seq.{drop-drop}
 use lib.Dec.{eqb}
+use Rattle.relations.specs.Code.{mostSets}
 use Rattle.relations.specs.declared.Joins.{Joins}
 use Rattle.relations.specs.Trees.{isSubquery, subqueries}
 use Rattle.query.specs.declared.Sites.{Sites}
@@ -96,7 +96,7 @@ pub sizes-in : (J : Joins) (n : ℕ) (l : List ℕ) → Has (UpTo 1_000_000_000)
 unfolding sizesSection
 sizes-in J n l =
     field-then _ 2 2 (subqueries J n) (subqueries J n) l _ (omega arith) λ v m c.
-    gives-items (UpTo 1_000_000_000) (sized J n) (size-keeps J n) (2 ^ n) 0 (replicate 512 0) m (zeros-up-to _ 512)
+    gives-items (UpTo 1_000_000_000) (sized J n) (size-keeps J n) (2 ^ n) 0 (replicate mostSets 0) m (zeros-up-to _ mostSets)
 
 pub record LinesIn (a : Lines) : Type 0 where
   pub fixed-most : UpTo 1_000_000 (a .fixed)

@@ -1,14 +1,16 @@
 -- Readings of fields: what a field gives by its tests, and that what follows a field's value is the part behind its bytes.
-use Prim.Native.Nat.{ℕ, _≤_, _<_}
+use Prim.Native.Nat.{ℕ, _-_, _^_, _≤_, _<_}
 use mathlib.Core.Path.{_≡_, refl, sym, ap, _∙_}
 use mathlib.Core.List.{List, []}
 use native.Mathlib.Omega.{arith}
 use lib.ListN.{length, drop}
+use mir.Syntax.{Width, w8}
+use mir.Val.{Fits, bits}
 use borrow.Author.Tests.{lt-ltb, le-ltb, le-leb, lt-leb}
 use Rattle.relations.proofs.Leads.{clash}
 use Rattle.query.specs.declared.fields.Field.{Field}
 use Rattle.query.specs.declared.fields.Field.the-variants.{Value, Refused}
-use Rattle.query.specs.Fields.{Read, refused, value, andThen, number, field}
+use Rattle.query.specs.Fields.{Read, refused, value, andThen, number, field, byteBelow}
 use Rattle.query.specs.Code.{fieldOf, faultOf}
 use Rattle.query.proofs.Gives.{Gives, field-cases}
 
@@ -83,6 +85,14 @@ field-most w fault low high v l f e h =
     let up-to : Read ℕ → Type 0 = λ x. (u : ℕ) (r : List ℕ) → x ≡ value u r → u ≤ high in
     field-cases up-to w fault low high l (λ u r q. absurd (clash (cc))) (λ u r q. absurd (clash (cc))) (λ a b u r q. let i : number w l ≡ u = cc in omega arith) v (drop w l)
     (field-value w fault low high v l f e h)
+
+-- So it fits a type that has room for its limit.
+pub field-fits :
+    (t : Width) (w fault low high v : ℕ) (l : List ℕ) (f : Field) → f ≡ fieldOf (field w fault low high l) → f ≡ Value v → high < 2 ^ bits t → Fits t v
+field-fits t w fault low high v l f e h k = record { fits = omega (arith, field-most w fault low high v l f e h) }
+
+pub byte-fits : (limit v : ℕ) (l : List ℕ) (f : Field) → f ≡ fieldOf (byteBelow limit l) → f ≡ Value v → limit ≤ 256 → Fits w8 v
+byte-fits limit v l f e h k = field-fits w8 1 3 0 (limit - 1) v l f e h (omega arith)
 
 -- A chain of fields, to what the code answers for it: a refused field ends it, one that is read goes on behind its bytes.
 module _ {B C : Type 0} (answer : Read B → C) (w fault low high : ℕ) (l : List ℕ) (next : ℕ → List ℕ → Read B) (f : Field) (e : f ≡ fieldOf (field w fault low high l)) where

@@ -5,6 +5,7 @@ use mathlib.Core.Path.{_≡_, sym, _∙_}
 use mathlib.Core.Bool.{Bool, true, false}
 use mathlib.Core.List.{List}
 use lib.ListN.{drop, set, replicate}
+use Rattle.relations.specs.Code.{mostSets}
 use Rattle.relations.specs.declared.Joins.{Joins}
 use Rattle.relations.specs.Trees.{isSubquery, subqueries}
 use Rattle.query.specs.declared.fields.Field.{Field}
@@ -29,10 +30,10 @@ module _ (J : Joins) (n d : ℕ) (l : List ℕ) (f : Field) where
   sizes-cut m k e h g c = rw (← c) (count-cut 2 2 d d l _ f g m k e h)
 
   pub sizes-start :
-      (v e : ℕ) → f ≡ fieldOf (field 2 2 d d l) → f ≡ Value v → d ≡ subqueries J n → e ≡ 2 ^ n →
-      sizesSection J n l ≡ items (sized J n) (e - 0) 0 (replicate 512 0) (drop 2 l)
+      (v e : ℕ) (a : List ℕ) → f ≡ fieldOf (field 2 2 d d l) → f ≡ Value v → d ≡ subqueries J n → e ≡ 2 ^ n → a ≡ replicate mostSets 0 →
+      sizesSection J n l ≡ items (sized J n) (e - 0) 0 a (drop 2 l)
   unfolding sizesSection
-  sizes-start v e g h c p = rw (← c, field-value 2 2 d d v l f g h, sub-zero, p)
+  sizes-start v e a g h c p z = rw (← c, field-value 2 2 d d v l f g h, sub-zero, p, z)
 
 module _ (J : Joins) (n : ℕ) (answer : Read (List ℕ)) (e S at : ℕ) (a l : List ℕ) (b : Bool) where
   none : isSubquery J n S ≡ false → (p : List ℕ) → sized J n S a p ≡ value a p

@@ -2,7 +2,9 @@
 use Prim.Native.Nat.{ℕ}
 use mathlib.Core.List.{List}
 use lib.ListN.{drop, replicate}
+use Rattle.relations.specs.Code.{mostSets}
 use Rattle.relations.specs.Trees.{subqueries}
+use Rattle.query.specs.declared.Lines.{Lines}
 use Rattle.query.specs.declared.Query.{Query}
 use Rattle.query.specs.declared.fields.Field.{Field}
 use Rattle.query.specs.declared.fields.Field.the-variants as field
@@ -48,6 +50,10 @@ abbrev pub readOf : {A : Type 0} → Outcome → A → ℕ → List ℕ → Read
 readOf outcome.Whole a used l = value a (drop used l)
 readOf (outcome.Refused k) a used l = refused k
 
+-- The lines by their three lists.
+abbrev pub linesOf : (flag fixed rate : List ℕ) → Lines
+linesOf flag fixed rate = record { flag = flag; fixed = fixed; rate = rate }
+
 -- The number of a section's refusal.
 abbrev pub outcomeFault : Outcome → ℕ
 outcomeFault outcome.Whole = 0
@@ -55,7 +61,7 @@ outcomeFault (outcome.Refused k) = k
 
 -- A query of zeros.
 unfoldable pub noQuery : Query
-noQuery = record { sites = noSites 0; relations = noRelations 0; joins = noJoins 0; sizes = replicate 512 0; lines = noLines; target = 0 }
+noQuery = record { sites = noSites 0; relations = noRelations 0; joins = noJoins 0; sizes = replicate mostSets 0; lines = noLines; target = 0 }
 
 -- A decoded file: the query and its number of subqueries, or a refusal and nothing else.
 abbrev pub decodedOf : Read Query → Decoded

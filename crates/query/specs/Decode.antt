@@ -3,6 +3,7 @@ use Prim.Native.Nat.{ℕ, _+_, _-_, _*_, _^_}
 use mathlib.Core.List.{List, []}
 use lib.ListN.{length, set, replicate}
 use lib.Dec.{eqb}
+use Rattle.relations.specs.Code.{mostSets}
 use Rattle.relations.specs.declared.Joins.{Joins}
 use Rattle.relations.specs.Trees.{isSubquery, subqueries, reaches}
 use Rattle.query.specs.declared.Sites.{Sites}
@@ -70,7 +71,7 @@ unfoldable pub sized : Joins → ℕ → ℕ → List ℕ → List ℕ → Read 
 sized J n S a l = pick (isSubquery J n S) (storing (amountUpTo 1_000_000_000) withSize S a l) (value a l)
 
 unfoldable pub sizesSection : Joins → ℕ → List ℕ → Read (List ℕ)
-sizesSection J n l = andThen (field 2 2 (subqueries J n) (subqueries J n) l) (λ m l. items (sized J n) (2 ^ n) 0 (replicate 512 0) l)
+sizesSection J n l = andThen (field 2 2 (subqueries J n) (subqueries J n) l) (λ m l. items (sized J n) (2 ^ n) 0 (replicate mostSets 0) l)
 
 -- Lines, count s(s-1): open flag, fixed amount, rate; by sender, then receiver, the sender itself left out.
 abbrev pub noLines : Lines

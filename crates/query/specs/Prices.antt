@@ -9,9 +9,13 @@ use Rattle.query.specs.Choice.{pick}
 use Rattle.query.specs.Cost.{Cost, none, some}
 use Rattle.query.specs.Query.{relationsOf, home, index, joinFixed, joinRate, isOpen, lineFixed, lineRate, size}
 
--- The price of a line from a to b for a set P: line fixed + line rate × size.
+-- What a line charges for a size: line fixed + line rate × size.
+abbrev pub lineCharge : (fixed rate size : ℕ) → ℕ
+lineCharge fixed rate size = fixed + rate * size
+
+-- The price of a line from a to b for a set P.
 unfoldable pub linePrice : Query → ℕ → ℕ → ℕ → ℕ
-linePrice q P a b = lineFixed q a b + lineRate q a b * size q P
+linePrice q P a b = lineCharge (lineFixed q a b) (lineRate q a b) (size q P)
 
 -- The carriage of P from site k to site t: nothing where it stays, the price of the direct line, none where that is closed.
 unfoldable pub carriage : Query → ℕ → ℕ → ℕ → Cost
@@ -25,9 +29,13 @@ read spared x = pick spared 0 x
 unfoldable pub reads : Bool → ℕ → Bool → ℕ → ℕ
 reads a x b y = read a x + read b y
 
--- The price of joining P and R at site k, a and b telling whether their reads are spared: join fixed + join rate × (reads + size of both together).
+-- What a join charges for what it reads and for its result: join fixed + join rate × (reads + size of both together).
+abbrev pub joinCharge : (fixed rate reads result : ℕ) → ℕ
+joinCharge fixed rate reads result = fixed + rate * (reads + result)
+
+-- The price of joining P and R at site k, a and b telling whether their reads are spared.
 unfoldable pub joinPrice : Query → ℕ → Bool → ℕ → Bool → ℕ → ℕ
-joinPrice q k a P b R = joinFixed q k + joinRate q k * (reads a (size q P) b (size q R) + size q (P + R))
+joinPrice q k a P b R = joinCharge (joinFixed q k) (joinRate q k) (reads a (size q P) b (size q R)) (size q (P + R))
 
 -- What a line, a carriage and a join cost at most, each amount at document 01's limit. A carriage takes one line.
 abbrev pub dearestLine : ℕ

@@ -16,6 +16,7 @@ use crate::sections::read_relations;
 use crate::sections::read_sites;
 use crate::sizes::read_sizes;
 use relations::Joins;
+use relations::SETS;
 use relations::count_subqueries;
 use relations::join_table;
 use relations::reaches;
@@ -52,7 +53,7 @@ pub fn no_query() -> Query
         sites: no_sites(0),
         relations: no_relations(0),
         joins: no_joins(0),
-        sizes: [0; 512],
+        sizes: [0; SETS],
         lines: no_lines(),
         target: 0,
     }
@@ -133,12 +134,12 @@ fn after_tree(part: &[u8], sites: Sites, relations: Relations, joins: Joins) -> 
 {
     let table = join_table(joins);
     let due = count_subqueries(joins, &table);
-    let read = read_sizes(part, joins, &table, due);
+    let mut sizes = [0u32; SETS];
+    let read = read_sizes(part, joins, &table, due, &mut sizes);
     let o = read.outcome;
     let Outcome::Whole = o else {
         return refused(outcome_fault(o));
     };
-    let sizes = read.sizes;
     let part = part_from(part, read.used);
     after_sizes(part, sites, relations, joins, sizes, due)
 }
@@ -149,7 +150,7 @@ fn after_sizes(
     sites: Sites,
     relations: Relations,
     joins: Joins,
-    sizes: [u64; 512],
+    sizes: [u32; SETS],
     due: usize,
 ) -> Decoded
     requires { ⌜ (1 ≤ sites .count) × (sites .count ≤ 8) ⌝ }
@@ -171,7 +172,7 @@ fn after_lines(
     sites: Sites,
     relations: Relations,
     joins: Joins,
-    sizes: [u64; 512],
+    sizes: [u32; SETS],
     lines: Lines,
     due: usize,
 ) -> Decoded

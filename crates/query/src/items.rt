@@ -14,15 +14,15 @@ pub const MOST_FIXED: u64 = 1000000;
 
 pub const MOST_RATE: u64 = 1000;
 
-// A flag, a fixed amount and a rate, or the number of the first refusal.
+// A flag, a fixed amount and a rate, each in a type that its limit fits, or the number of the first refusal.
 pub enum TermsRead {
-    Terms { flag: u64, fixed: u64, rate: u64 },
+    Terms { flag: u8, fixed: u32, rate: u32 },
     Refused(u64),
 }
 
 // Two bytes, or the number of the first refusal.
 pub enum TwoRead {
-    Two { one: u64, other: u64 },
+    Two { one: u8, other: u8 },
     Refused(u64),
 }
 
@@ -44,12 +44,16 @@ pub(crate) fn read_terms(part: &[u8]) -> TermsRead
     let Field::Value(rate) = c else {
         return TermsRead::Refused(fault(c));
     };
-    TermsRead::Terms { flag, fixed, rate }
+    TermsRead::Terms {
+        flag: flag as u8,
+        fixed: fixed as u32,
+        rate: rate as u32,
+    }
 }
 
 // Two bytes, the first below a and the second below b.
 pub(crate) fn read_two(part: &[u8], a: usize, b: usize) -> TwoRead
-    requires { ⌜ (1 ≤ a) × (1 ≤ b) ⌝ }
+    requires { ⌜ ((1 ≤ a) × (a ≤ 256)) × ((1 ≤ b) × (b ≤ 256)) ⌝ }
     ensures { λ r. ⌜ r ≡ twoOf (two a b (now (part .entry))) ⌝ }
 {
     let x = byte_below(part, a);
@@ -61,7 +65,10 @@ pub(crate) fn read_two(part: &[u8], a: usize, b: usize) -> TwoRead
     let Field::Value(other) = y else {
         return TwoRead::Refused(fault(y));
     };
-    TwoRead::Two { one, other }
+    TwoRead::Two {
+        one: one as u8,
+        other: other as u8,
+    }
 }
 
 // The number of a refusal of terms.

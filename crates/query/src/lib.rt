@@ -1,4 +1,5 @@
 // The query, its file and its prices.
+mod amounts;
 mod decoding;
 mod fields;
 mod items;
@@ -6,12 +7,14 @@ mod line_section;
 mod sections;
 mod sizes;
 
+pub use amounts::amount;
 pub use decoding::Decoded;
 pub use decoding::decode;
 pub use decoding::no_query;
 pub use items::MOST_FIXED;
 pub use items::MOST_RATE;
 use relations::Joins;
+use relations::SETS;
 pub use sections::Outcome;
 
 pub mod price;
@@ -25,23 +28,23 @@ pub struct Charge(pub u64);
 // The sites: whether each may join (1) or not (0), and its join's fixed amount and rate.
 pub struct Sites {
     pub count: usize,
-    pub may: [u64; 8],
-    pub fixed: [u64; 8],
-    pub rate: [u64; 8],
+    pub may: [u8; 8],
+    pub fixed: [u32; 8],
+    pub rate: [u32; 8],
 }
 
 // The relations: the home of each, and whether it has its index flag set (1) or not (0).
 pub struct Relations {
     pub count: usize,
-    pub home: [usize; 9],
-    pub index: [u64; 9],
+    pub home: [u8; 9],
+    pub index: [u8; 9],
 }
 
 // The lines: that from site a to site b stands at 8 * a + b. Flag 1 is open, 0 closed.
 pub struct Lines {
-    pub flag: [u64; 64],
-    pub fixed: [u64; 64],
-    pub rate: [u64; 64],
+    pub flag: [u8; 64],
+    pub fixed: [u32; 64],
+    pub rate: [u32; 64],
 }
 
 // A query. The size of subquery S stands at S; where S is no subquery the size is 0.
@@ -49,7 +52,7 @@ pub struct Query {
     pub sites: Sites,
     pub relations: Relations,
     pub joins: Joins,
-    pub sizes: [u64; 512],
+    pub sizes: [u32; SETS],
     pub lines: Lines,
     pub target: usize,
 }

@@ -7,11 +7,12 @@ use crate::fields::part_from;
 use crate::items::TermsRead;
 use crate::items::read_terms;
 use crate::items::terms_fault;
+use crate::sections::Ended;
 use crate::sections::Outcome;
 ghost use Prim.Native.Nat.{_≤_, _<_};
 ghost use mathlib.Core.Path.{_≡_};
 ghost use Rattle.query.specs.Decode.{noLines, sender, linesSection};
-ghost use Rattle.query.specs.Code.{readOf};
+ghost use Rattle.query.specs.Code.{readOf, linesOf};
 
 pub struct LinesRead {
     pub outcome: Outcome,
@@ -29,12 +30,20 @@ pub(crate) fn no_lines() -> Lines
     }
 }
 
-// The lines of sender a to each receiver of s sites but itself: open flag, fixed amount, rate.
-fn read_sender(part: &[u8], s: usize, a: usize, kept: Lines) -> LinesRead
+// The lines of sender a to each receiver of s sites but itself, into the lists of flags, fixed amounts and rates.
+fn read_sender(
+    part: &[u8],
+    s: usize,
+    a: usize,
+    flags: &mut [u8; 64],
+    amounts: &mut [u32; 64],
+    rates: &mut [u32; 64],
+) -> Ended
     requires { ⌜ (s ≤ 8) × (a < 8) ⌝ }
-    ensures { λ r. ⌜ (readOf (r .outcome) (r .lines) (r .used) (now (part .entry)) ≡ sender s a kept (now (part .entry))) × (r .used ≤ 72) ⌝ }
+    ensures { λ r.
+        ⌜ (readOf (r .outcome) (linesOf (now (flags .exit)) (now (amounts .exit)) (now (rates .exit))) (r .used) (now (part .entry))
+        ≡ sender s a (linesOf (now (flags .entry)) (now (amounts .entry)) (now (rates .entry))) (now (part .entry))) × (r .used ≤ 72) ⌝ }
 {
-    let mut lines = kept;
     let mut at = 0;
     let mut b = 0;
     while b < s {
@@ -42,24 +51,22 @@ fn read_sender(part: &[u8], s: usize, a: usize, kept: Lines) -> LinesRead
         if a != b {
             let t = read_terms(part_from(part, at));
             let TermsRead::Terms { flag, fixed, rate } = t else {
-                return LinesRead {
+                return Ended {
                     outcome: Outcome::Refused(terms_fault(t)),
                     used: 0,
-                    lines,
                 };
             };
             let i = 8 * a + b;
-            lines.flag[i] = flag;
-            lines.fixed[i] = fixed;
-            lines.rate[i] = rate;
+            flags[i] = flag;
+            amounts[i] = fixed;
+            rates[i] = rate;
             at += 9;
         }
         b = next;
     }
-    LinesRead {
+    Ended {
         outcome: Outcome::Whole,
         used: at,
-        lines,
     }
 }
 
@@ -70,29 +77,34 @@ pub(crate) fn read_lines(part: &[u8], s: usize) -> LinesRead
 {
     let due = (s * (s - 1)) as u64;
     let c = count_field(part, due, due);
-    let mut lines = no_lines();
     let Field::Value(_) = c else {
         return LinesRead {
             outcome: Outcome::Refused(fault(c)),
             used: 0,
-            lines,
+            lines: no_lines(),
         };
     };
+    let mut flag = [0u8; 64];
+    let mut fixed = [0u32; 64];
+    let mut rate = [0u32; 64];
     let mut at = 1;
     let mut a = 0;
     while a < s {
-        let r = read_sender(part_from(part, at), s, a, lines);
+        let r = read_sender(part_from(part, at), s, a, &mut flag, &mut fixed, &mut rate);
         let o = r.outcome;
         let Outcome::Whole = o else {
-            return r;
+            return LinesRead {
+                outcome: o,
+                used: 0,
+                lines: no_lines(),
+            };
         };
-        lines = r.lines;
         at += r.used;
         a += 1;
     }
     LinesRead {
         outcome: Outcome::Whole,
         used: at,
-        lines,
+        lines: Lines { flag, fixed, rate },
     }
 }

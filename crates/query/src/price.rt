@@ -1,11 +1,13 @@
 // The prices. Only these functions turn bytes into charge units. The checker and the solver both use them.
 use crate::Bytes;
 use crate::Charge;
+use relations::wide;
 ghost use mathlib.Core.Path.{_≡_};
 ghost use Prim.Native.Nat.{_+_, _*_, _^_, _≤_, _<_};
 ghost use lib.Dec.{eqb};
 ghost use lib.ListN.{length};
-ghost use Rattle.query.specs.Prices.{read, reads};
+ghost use Rattle.relations.specs.Code.{mostSets};
+ghost use Rattle.query.specs.Prices.{lineCharge, read, reads, joinCharge};
 ghost use Rattle.query.specs.Indexed.{indexedIn};
 ghost use Rattle.query.specs.Masks.{countedMask, IsMask};
 
@@ -23,7 +25,7 @@ fn rated(rate: u64, size: Bytes) -> Charge
 // The price of a line for what is sent: line fixed + line rate × size.
 pub fn line_price(fixed: Charge, rate: u64, size: Bytes) -> Charge
     requires { ⌜ (fixed .0 ≤ 2 ^ 60) × ((rate ≤ 1000) × (size .0 ≤ 1000000000)) ⌝ }
-    ensures { λ r. ⌜ (r .0 ≡ fixed .0 + rate * size .0) × (r .0 ≤ fixed .0 + 1000000000000) ⌝ }
+    ensures { λ r. ⌜ (r .0 ≡ lineCharge (fixed .0) rate (size .0)) × (r .0 ≤ fixed .0 + 1000000000000) ⌝ }
 {
     let sent = rated(rate, size);
     Charge(fixed.0 + sent.0)
@@ -57,22 +59,22 @@ pub fn reads(a: u64, x: Bytes, b: u64, y: Bytes) -> Bytes
 // The price of a join: join fixed + join rate × (reads + size of the result).
 pub fn join_price(fixed: Charge, rate: u64, reads: Bytes, result: Bytes) -> Charge
     requires { ⌜ (fixed .0 ≤ 2 ^ 60) × ((rate ≤ 1000) × ((reads .0 ≤ 2000000000) × (result .0 ≤ 1000000000))) ⌝ }
-    ensures { λ r. ⌜ (r .0 ≡ fixed .0 + rate * (reads .0 + result .0)) × (r .0 ≤ fixed .0 + 3000000000000) ⌝ }
+    ensures { λ r. ⌜ (r .0 ≡ joinCharge (fixed .0) rate (reads .0) (result .0)) × (r .0 ≤ fixed .0 + 3000000000000) ⌝ }
 {
     let work = rated(rate, Bytes(reads.0 + result.0));
     Charge(fixed.0 + work.0)
 }
 
 // Whether a set at a site is read by its index: it is one relation, the site is its home, and its index flag is set.
-pub fn is_indexed<'a>(home: &'a [usize], index: &'a [u64], set: usize, site: usize) -> bool
-    requires { ⌜ (set < 512) × ((9 ≤ length (now home)) × (9 ≤ length (now index))) ⌝ }
+pub fn is_indexed<'a>(home: &'a [u8], index: &'a [u8], set: usize, site: usize) -> bool
+    requires { ⌜ (set < mostSets) × ((9 ≤ length (now home)) × (9 ≤ length (now index))) ⌝ }
     ensures { λ r. ⌜ r ≡ indexedIn 9 (now (home .entry)) (now (index .entry)) set site ⌝ }
 {
     if usize::count_ones(set) != 1 {
         return false;
     }
     let r = usize::trailing_zeros(set) as usize;
-    if home[r] != site {
+    if wide(home[r]) != site {
         return false;
     }
     index[r] == 1

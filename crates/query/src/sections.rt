@@ -24,6 +24,12 @@ pub enum Outcome {
     Refused(u64),
 }
 
+// How the reading into a list that is lent ended, and how many bytes it used.
+pub struct Ended {
+    pub outcome: Outcome,
+    pub used: usize,
+}
+
 // What each section's reading gives: how it ended, how many bytes it used, and what it read.
 pub struct SitesRead {
     pub outcome: Outcome,
@@ -120,7 +126,7 @@ pub(crate) fn read_sites(part: &[u8]) -> SitesRead
 
 // Relations: home site, index flag.
 pub(crate) fn read_relations(part: &[u8], s: usize) -> RelationsRead
-    requires { ⌜ 1 ≤ s ⌝ }
+    requires { ⌜ (1 ≤ s) × (s ≤ 8) ⌝ }
     ensures { λ r. ⌜ readOf (r .outcome) (r .relations) (r .used) (now (part .entry)) ≡ relationsSection s (now (part .entry)) ⌝ }
 {
     let c = count_field(part, 1, 9);
@@ -144,7 +150,7 @@ pub(crate) fn read_relations(part: &[u8], s: usize) -> RelationsRead
                 relations,
             };
         };
-        relations.home[i] = one as usize;
+        relations.home[i] = one;
         relations.index[i] = other;
         at += 2;
         i += 1;
@@ -183,8 +189,8 @@ pub(crate) fn read_joins(part: &[u8], n: usize) -> JoinsRead
                 joins,
             };
         };
-        joins.first[i] = one as usize;
-        joins.second[i] = other as usize;
+        joins.first[i] = one;
+        joins.second[i] = other;
         at += 2;
         i += 1;
     }

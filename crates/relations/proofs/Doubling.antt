@@ -17,7 +17,7 @@ use lib.Pow.{pow-mono}
 use Rattle.relations.specs.declared.Joins.{Joins}
 use Rattle.relations.specs.Growth.{first, second, inside}
 use Rattle.relations.specs.Trees.{joinsIn}
-use Rattle.relations.specs.Code.{EndsOf, endsOf, orNone}
+use Rattle.relations.specs.Code.{EndsOf, endsOf, orNone, mostSets}
 use Rattle.relations.specs.Table.{joinBits, entry, TableOf, arrives, arriving, Upper, Roomy}
 use Rattle.relations.proofs.Bits.{bit-high, bit-none}
 use Rattle.relations.proofs.Counts.{ones-more, ones-zero}
@@ -117,7 +117,7 @@ unfolding entry
 entry-none J = omega (arith, ones-zero, joins-none J (J .count))
 
 -- The empty set alone, one relation more, and all of them.
-pub table-none : (J : Joins) (l : List ℕ) → length l ≡ 512 → getD l 0 0 ≡ 0 → TableOf J l (2 ^ 0)
+pub table-none : (J : Joins) (l : List ℕ) → length l ≡ mostSets → getD l 0 0 ≡ 0 → TableOf J l (2 ^ 0)
 table-none J l h z = record { long = h; each = λ i k. let first : i ≡ 0 = omega arith in rw first (z ∙ sym (entry-none J)) }
 
 pub table-more :
@@ -134,7 +134,7 @@ table-more J old new l half r t e q u = record { long = u .long ∙ t .long; eac
         rw whole at (above (i - half) (omega (arith, pow-suc 2 r, ap (λ (x : ℕ). 2 ^ x) (add-one r))))
 
 pub table-done : (J : Joins) (l : List ℕ) (r : ℕ) → TableOf J l (2 ^ r) → r ≤ J .count + 1 → J .count < r → TableOf J l (2 ^ (J .count + 1))
-table-done J l r t h k = listed-done l (entry J) 512 (2 ^ r) (2 ^ (J .count + 1)) t (pow-mono (omega arith))
+table-done J l r t h k = listed-done l (entry J) mostSets (2 ^ r) (2 ^ (J .count + 1)) t (pow-mono (omega arith))
 
 pub table-roomy : (J : Joins) (l : List ℕ) (half r : ℕ) → TableOf J l (2 ^ r) → J .count ≤ 8 → r ≤ J .count → half ≡ 2 ^ r → Roomy l half 0 20
 table-roomy J l half r t few h q =

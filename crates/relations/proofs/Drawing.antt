@@ -33,12 +33,19 @@ drawn-of J d few q t =
 pub tree-of : (J : Joins) (t : Bool) → Drawn J → t ≡ reaches J (J .count + 1) → t ≡ true → Tree J (J .count + 1)
 tree-of J t d q h = record { joins = refl; first-in = d .first-in; second-in = d .second-in; reached = sym q ∙ h }
 
--- The relations of a join are bits of a word.
-pub first-low : (J : Joins) (e : ℕ) → Drawn J → e < J .count → first J e < 64
-first-low J e d l = omega (arith, d .few, d .first-in e l)
+-- The relations f and s of a join are among the relations, and bits of a word.
+module _ (J : Joins) (e f : ℕ) (d : Drawn J) (l : e < J .count) where
+  pub first-drawn : f ≡ first J e → f < J .count + 1
+  first-drawn q = omega (arith, d .first-in e l)
 
-pub second-low : (J : Joins) (e : ℕ) → Drawn J → e < J .count → second J e < 64
-second-low J e d l = omega (arith, d .few, d .second-in e l)
+  pub second-drawn : f ≡ second J e → f < J .count + 1
+  second-drawn q = omega (arith, d .second-in e l)
+
+  pub first-low : f ≡ first J e → f < 64
+  first-low q = omega (arith, d .few, first-drawn q)
+
+  pub second-low : f ≡ second J e → f < 64
+  second-low q = omega (arith, d .few, second-drawn q)
 
 -- Growth within all relations may start from each.
 pub single-growable : (J : Joins) (r S A : ℕ) → Drawn J → r < J .count + 1 → S ≡ all (J .count + 1) → A ≡ 2 ^ r → Growable J S A

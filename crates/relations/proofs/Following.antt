@@ -1,7 +1,7 @@
 -- What the recursive growth leans on. It follows the lowest join that leads out: each time one relation more is taken, so what is left to take
 -- falls, and growth from there is the same growth; where no join leads out, the set is closed and is its own growth.
 use Prim.Native.Nat.{ℕ, _+_, _-_, _≤_, _<_}
-use mathlib.Core.Path.{_≡_, sym, ap, _∙_, subst}
+use mathlib.Core.Path.{_≡_, refl, sym, ap, _∙_, subst}
 use native.Mathlib.Omega.{arith}
 use lib.Count.{ones, ones-le}
 use Rattle.relations.specs.declared.Joins.{Joins}
@@ -14,7 +14,7 @@ use Rattle.relations.proofs.Leads.{Leads, leads-means, along-within, on
 use Rattle.relations.proofs.Growth.{closed-of-none, grow-still, grow-add}
 
 pub ends-low : (J : Joins) (e : ℕ) → Drawn J → e < J .count → Ends J e
-ends-low J e d l = record { low = omega (arith, d .few); first-low = first-low J e d l; second-low = second-low J e d l }
+ends-low J e d l = record { low = omega (arith, d .few); first-low = first-low J e _ d l refl; second-low = second-low J e _ d l refl }
 
 module _ (J : Joins) (S x A e : ℕ) (g : Growable J S A) (f : FirstLeading J S x A e) where
   pub grow-done : J .count ≤ e → A ≡ grow J S x (J .count + 1) A

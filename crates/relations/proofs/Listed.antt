@@ -1,13 +1,10 @@
 -- A list that a loop fills from its first entry on, at every width: each turn stores one entry more and leaves those below it.
-use Prim.Native.Nat.{ℕ, _+_, _≤_, _<_, zero-le}
-use mathlib.Core.Path.{_≡_, refl, _∙_}
-use mathlib.Core.Bool.{Bool, true, false}
+use Prim.Native.Nat.{ℕ, _+_, _≤_, _<_}
+use mathlib.Core.Path.{_≡_, _∙_}
 use mathlib.Core.List.{List}
 use native.Mathlib.Omega.{arith}
 use borrow.Author.Count.{below-none, below-more}
-use borrow.Author.Tests.{ltb-true, ltb-false}
-use lib.Dec.{ltb}
-use lib.ListN.{length, getD, set, length-set, List·getD-eq-default}
+use lib.ListN.{length, getD, set, length-set}
 use lib.Seq.{getD-set-same, getD-set-other}
 use Rattle.relations.specs.Code.{Listed}
 
@@ -31,11 +28,3 @@ module _ (l : List ℕ) (g : ℕ → ℕ) (n : ℕ) where
   -- Fewer entries: those up to the loop's end.
   pub listed-done : (k s : ℕ) → Listed l g n k → s ≤ k → Listed l g n s
   listed-done k s r h = record { long = r .long; each = λ i below. r .each i (omega arith) }
-
-  -- A list that is filled whole has no number above what g keeps to: past its end it has none.
-  pub listed-most : (most : ℕ) → Listed l g n n → ((i : ℕ) → g i ≤ most) → (i : ℕ) → getD l i 0 ≤ most
-  listed-most most h limit i = go (ltb i n) refl
-    where
-      go : (t : Bool) → ltb i n ≡ t → getD l i 0 ≤ most
-      go true low = rw (h .each i (ltb-true i n low)) (limit i)
-      go false past = rw (List·getD-eq-default l 0 {n = i} (omega (arith, h .long, ltb-false i n past))) zero-le

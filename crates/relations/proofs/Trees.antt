@@ -1,7 +1,7 @@
 -- In a tree a join's second relation is outside its side. Growth takes a join for each relation that it adds, so growth that skips a join
 -- has at most as many relations as there are joins, one too few for all; and with the second relation the side would be closed, so all.
 use Prim.Native.Nat.{ℕ, zero, suc, _+_, _-_, _^_, _≤_, _<_, min}
-use mathlib.Core.Path.{_≡_, refl, sym, ap, subst}
+use mathlib.Core.Path.{_≡_, refl, sym, subst}
 use native.Mathlib.Decide.{ℕ-discrete}
 use native.Mathlib.Omega.{arith}
 use lib.Count.{ones, ones-ones}
@@ -95,7 +95,3 @@ module _ (J : Joins) (n : ℕ) (t : Tree J n) (e : ℕ) (l : e < J .count) where
 
 pub side-apart : SideApart
 side-apart J n t e l = (side-first J n t e l, side-second J n t e l)
-
--- No join of a tree links a relation to itself.
-pub ends-differ : (J : Joins) (n : ℕ) → Tree J n → (e : ℕ) → e < J .count → first J e ≡ second J e → ⊥
-ends-differ J n t e l q = omega (arith, side-first J n t e l, side-second J n t e l, ap (bit (side J n e)) q)

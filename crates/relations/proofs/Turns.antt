@@ -14,7 +14,7 @@ use Rattle.relations.specs.declared.Joins.{Joins}
 use Rattle.relations.specs.Sets.{bit, put, Sub}
 use Rattle.relations.specs.Growth.{first, second, inside}
 use Rattle.relations.specs.Trees.{isSubquery, countBelow, subqueries}
-use Rattle.relations.specs.Code.{endsOf, tally, endsBelow}
+use Rattle.relations.specs.Code.{endsOf, tally, endsBelow, mostSets}
 use Rattle.relations.specs.Table.{Tabled, isConnected}
 use Rattle.relations.proofs.Bits.{bit-le, bit-and, and-of-sub, bit-pow, bit-put, sub-single}
 use Rattle.relations.proofs.Entries.{tested}
@@ -28,9 +28,9 @@ unfolding countBelow
 subqueries-next J n S = tally-is (isSubquery J n S) (countBelow J n S)
 
 -- One join more: the joins whose ends are in range.
-pub ends-more : (J : Joins) (n e : ℕ) (d : Bool) → d ≡ endsBelow J n e → (d && (ltb (first J e) n && ltb (second J e) n)) ≡ endsBelow J n (e + 1)
+pub ends-more : (J : Joins) (n e f s : ℕ) (d : Bool) → f ≡ first J e → s ≡ second J e → d ≡ endsBelow J n e → (d && (ltb f n && ltb s n)) ≡ endsBelow J n (e + 1)
 unfolding endsBelow
-ends-more J n e d p = rw (add-one, p)
+ends-more J n e f s d q r p = rw (add-one, q, r, p)
 
 -- A join lies in a set where the set masked by its ends is the ends.
 pub ends-in : (J : Joins) (S e : ℕ) → eqb (bitAnd S (endsOf J e)) (endsOf J e) ≡ inside J S e
@@ -65,9 +65,9 @@ ends-in J S e = go (eqb (bit S (first J e) + bit S (second J e)) 2) refl
         (omega (arith, ap (λ (x : ℕ). bit x f) q, ap (λ (x : ℕ). bit x s) q, bit-and S M f, bit-and S M s, has-first, has-second, bit-le S f, bit-le S s))
 
 -- One join's ends.
-pub ends-are : (J : Joins) (e v w : ℕ) → v ≡ 2 ^ first J e → w ≡ put v (second J e) → w ≡ endsOf J e
+pub ends-are : (J : Joins) (e f s v w : ℕ) → f ≡ first J e → s ≡ second J e → v ≡ 2 ^ f → w ≡ put v s → w ≡ endsOf J e
 unfolding endsOf
-ends-are J e v w q z = z ∙ ap (λ (x : ℕ). put x (second J e)) q
+ends-are J e f s v w p r q z = z ∙ rw (q, p, r)
 
 -- No set, one set more, and all of them: the subqueries below.
 pub subqueries-none : (J : Joins) (n : ℕ) → 0 ≡ countBelow J n 0
@@ -85,8 +85,8 @@ pub subqueries-done : (J : Joins) (n S m end : ℕ) → m ≡ countBelow J n S �
 subqueries-done J n S m end p l h q = let last : S ≡ 2 ^ n = omega arith in cc
 
 -- The sets of at most nine relations are few.
-pub few-sets : (m : ℕ) → m ≤ 8 → 2 ^ (m + 1) ≤ 512
+pub few-sets : (m : ℕ) → m ≤ 8 → 2 ^ (m + 1) ≤ mostSets
 few-sets m h = pow-mono {j = 9} (omega arith)
 
-pub below-512 : (S n : ℕ) → n ≤ 9 → S < 2 ^ n → S < 512
-below-512 S n l h = omega (arith, pow-mono l)
+pub below-sets : (S n : ℕ) → n ≤ 9 → S < 2 ^ n → S < mostSets
+below-sets S n l h = omega (arith, pow-mono l)

@@ -10,6 +10,10 @@ use Rattle.relations.specs.Sets.{Sub, put}
 use Rattle.relations.specs.Growth.{first, second, leads}
 use Rattle.relations.specs.Trees.{reaches, side, subqueries}
 
+-- How many sets of relations the code's arrays have room for: those of nine relations.
+abbrev pub mostSets : ℕ
+mostSets = 512
+
 -- At most eight joins, each between two of the relations: what refusals 2 and 3 leave.
 pub record Drawn (J : Joins) : Type 0 where
   pub few : J .count ≤ 8

@@ -11,7 +11,7 @@ use lib.ListN.{length, getD}
 use Rattle.relations.specs.declared.Joins.{Joins}
 use Rattle.relations.specs.Growth.{inside}
 use Rattle.relations.specs.Trees.{joinsIn, Tree}
-use Rattle.relations.specs.Code.{Listed, orNone}
+use Rattle.relations.specs.Code.{Listed, orNone, mostSets}
 
 -- The joins below m that lie in S, as a set of joins: the sum of 2^e over them.
 unfoldable pub joinBits : Joins → ℕ → ℕ → ℕ
@@ -24,7 +24,7 @@ entry J S = 65536 * ones S + (256 * joinsIn J S (J .count) + joinBits J S (J .co
 
 -- The entries of the sets below m.
 abbrev pub TableOf : Joins → List ℕ → ℕ → Type 0
-TableOf J l m = Listed l (entry J) 512 m
+TableOf J l m = Listed l (entry J) mostSets m
 
 -- The joins make a tree, and the table has every set of its relations.
 pub record Tabled (J : Joins) (l : List ℕ) : Type 0 where
@@ -54,6 +54,6 @@ pub record Upper (old new : List ℕ) (half m : ℕ) (g : ℕ → ℕ) : Type 0 
 
 -- A table with room for twice half sets, whose half numbers from a place on are below 2^k: so small that what is added to them fits 32 bits.
 pub record Roomy (l : List ℕ) (half from k : ℕ) : Type 0 where
-  pub long : length l ≡ 512
+  pub long : length l ≡ mostSets
   pub low : half ≤ 256
   pub room : (i : ℕ) → i < half → getD l (from + i) 0 < 2 ^ k

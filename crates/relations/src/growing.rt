@@ -3,6 +3,7 @@ use crate::Joins;
 use crate::member::bit;
 use crate::member::both;
 use crate::member::with;
+use crate::widening::wide;
 ghost use Prim.Native.Nat.{_+_, _≤_, _<_};
 ghost use mathlib.Core.Path.{_≡_};
 ghost use Rattle.relations.specs.Growth.{leads, along, grow};
@@ -13,8 +14,8 @@ fn leads(joins: Joins, within: usize, skip: usize, taken: usize, e: usize) -> bo
     requires { ⌜ e < 8 ⌝ }
     ensures { λ r. ⌜ r ≡ leads joins within skip taken e ⌝ }
 {
-    let f = joins.first[e];
-    let s = joins.second[e];
+    let f = wide(joins.first[e]);
+    let s = wide(joins.second[e]);
     (e != skip) & both(within, f, s) & (bit(taken, f) + bit(taken, s) == 1)
 }
 
@@ -39,8 +40,8 @@ fn along(joins: Joins, taken: usize, e: usize) -> usize
     requires { ⌜ Ends joins e ⌝ }
     ensures { λ r. ⌜ r ≡ along joins taken e ⌝ }
 {
-    let f = joins.first[e];
-    let s = joins.second[e];
+    let f = wide(joins.first[e]);
+    let s = wide(joins.second[e]);
     with(with(taken, f), s)
 }
 

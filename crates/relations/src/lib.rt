@@ -4,6 +4,7 @@ mod member;
 mod subquery;
 mod table;
 mod tree;
+mod widening;
 
 pub use member::bit;
 pub use member::single;
@@ -17,10 +18,14 @@ pub use table::join_table;
 pub use table::joins_in;
 pub use tree::reaches;
 pub use tree::sides;
+pub use widening::wide;
+
+// How many sets of relations arrays over sets have room for: those of nine relations.
+pub const SETS: usize = 512;
 
 // The joins of a query: join e links relations first[e] and second[e], for e below count.
 pub struct Joins {
     pub count: usize,
-    pub first: [usize; 8],
-    pub second: [usize; 8],
+    pub first: [u8; 8],
+    pub second: [u8; 8],
 }

@@ -1,10 +1,12 @@
 // Which sets of relations are subqueries: in a tree, those that hold one join fewer than relations. No growth is needed.
 use crate::Joins;
+use crate::SETS;
 use crate::member::single;
 use crate::member::with;
 use crate::table::is_connected;
 use crate::table::join_table;
 use crate::tree::reaches;
+use crate::widening::wide;
 ghost use Prim.Native.Nat.{_+_, _^_, _≤_, _<_};
 ghost use mathlib.Core.Path.{_≡_};
 ghost use Rattle.relations.specs.Trees.{subqueries};
@@ -28,8 +30,8 @@ pub fn ends(joins: Joins) -> [usize; 8]
     let mut found = [0usize; 8];
     let mut e = 0;
     while e < count {
-        let f = joins.first[e];
-        let s = joins.second[e];
+        let f = wide(joins.first[e]);
+        let s = wide(joins.second[e]);
         found[e] = with(single(f), s);
         e += 1;
     }
@@ -37,7 +39,7 @@ pub fn ends(joins: Joins) -> [usize; 8]
 }
 
 // The number of subqueries of a tree, by its table.
-pub fn count_subqueries(joins: Joins, table: &[u32; 512]) -> usize
+pub fn count_subqueries(joins: Joins, table: &[u32; SETS]) -> usize
     requires { ⌜ Tabled joins (now table) ⌝ }
     ensures { λ r. ⌜ r ≡ subqueries joins (joins .count + 1) ⌝ }
 {
@@ -60,8 +62,8 @@ fn drawn(joins: Joins) -> bool
     let mut ok = true;
     let mut e = 0;
     while e < count {
-        let f = joins.first[e];
-        let s = joins.second[e];
+        let f = wide(joins.first[e]);
+        let s = wide(joins.second[e]);
         ok = ok & ((f < n) & (s < n));
         e += 1;
     }

@@ -1,5 +1,6 @@
 // What every set of relations holds: its relations and its joins, worked out for all sets in one pass by doubling.
 use crate::Joins;
+use crate::SETS;
 use crate::member::single;
 use crate::subquery::ends;
 ghost use Prim.Native.Nat.{_+_, _*_, _/_, _%_, _^_, _≤_, _<_};
@@ -16,7 +17,7 @@ const RELATION: u32 = 65536;
 const JOIN: u32 = 256;
 
 // The sets with a new relation, whose mask is half: each holds what the set without it holds, and one relation more.
-fn double(table: &mut [u32; 512], half: usize)
+fn double(table: &mut [u32; SETS], half: usize)
     requires { ⌜ Roomy (now table) half 0 20 ⌝ }
     ensures { λ r. ⌜ Upper (now (table .entry)) (now (table .exit)) half half (λ i. getD (now (table .entry)) i 0 + 65536) ⌝ }
 {
@@ -35,7 +36,7 @@ fn if_within(set: u32, part: u32, n: u32) -> u32
 }
 
 // A join between the new relation and the other, or of the new one with itself, where other is 0: it lies in each new set that holds the other.
-fn link(table: &mut [u32; 512], half: usize, other: u32, add: u32)
+fn link(table: &mut [u32; SETS], half: usize, other: u32, add: u32)
     requires { ⌜ Roomy (now table) half half 22 × (add < 2 ^ 22) ⌝ }
     ensures { λ r. ⌜ Upper (now (table .entry)) (now (table .exit)) half half (λ i. getD (now (table .entry)) (half + i) 0 + orNone (eqb (bitAnd i other) other) add) ⌝ }
 {
@@ -47,7 +48,7 @@ fn link(table: &mut [u32; 512], half: usize, other: u32, add: u32)
 }
 
 // The same for a join with these ends, where the new relation is the highest of them; any other join changes nothing.
-fn link_join(table: &mut [u32; 512], half: usize, around: usize, add: u32)
+fn link_join(table: &mut [u32; SETS], half: usize, around: usize, add: u32)
     requires { ⌜ Roomy (now table) half half 22 × (add < 2 ^ 22) ⌝ }
     ensures { λ r. ⌜ Upper (now (table .entry)) (now (table .exit)) half half (λ i. getD (now (table .entry)) (half + i) 0 + orNone (arrives half around i) add) ⌝ }
 {
@@ -57,7 +58,7 @@ fn link_join(table: &mut [u32; 512], half: usize, around: usize, add: u32)
 }
 
 // The sets with a new relation, whose mask is half: one relation more, and the joins that it brings.
-fn add_relation(table: &mut [u32; 512], ends: &[usize; 8], count: usize, half: usize)
+fn add_relation(table: &mut [u32; SETS], ends: &[usize; 8], count: usize, half: usize)
     requires { ⌜ Roomy (now table) half 0 20 × (count ≤ 8) ⌝ }
     ensures { λ r. ⌜ Upper (now (table .entry)) (now (table .exit)) half half (λ i. getD (now (table .entry)) i 0 + (65536 + arriving (now (ends .entry)) half i count)) ⌝ }
 {
@@ -70,12 +71,12 @@ fn add_relation(table: &mut [u32; 512], ends: &[usize; 8], count: usize, half: u
 }
 
 // The entry of every set of relations.
-pub fn join_table(joins: Joins) -> [u32; 512]
+pub fn join_table(joins: Joins) -> [u32; SETS]
     requires { ⌜ Drawn joins ⌝ }
     ensures { λ r. ⌜ TableOf joins r (2 ^ (joins .count + 1)) ⌝ }
 {
     let around = ends(joins);
-    let mut table = [0u32; 512];
+    let mut table = [0u32; SETS];
     let mut r = 0;
     while r <= joins.count {
         add_relation(&mut table, &around, joins.count, single(r));

@@ -3,6 +3,7 @@ use crate::Joins;
 use crate::growing::grow;
 use crate::member::single;
 use crate::member::whole;
+use crate::widening::wide;
 ghost use Prim.Native.Nat.{_+_, _<_};
 ghost use mathlib.Core.Path.{_≡_};
 ghost use Rattle.relations.specs.Trees.{reaches, side};
@@ -24,7 +25,7 @@ fn side(joins: Joins, e: usize) -> usize
     ensures { λ r. ⌜ r ≡ side joins (joins .count + 1) e ⌝ }
 {
     let every = whole(joins.count + 1);
-    let f = joins.first[e];
+    let f = wide(joins.first[e]);
     grow(joins, every, e, single(f))
 }
 

@@ -28,13 +28,13 @@ module _ (q : Query) (r : ℕ) (m : Machine) (o : Outcome) where
   unfolding load
   load-twice v h b d e = e ∙ rw (lt-ltb r (relationsOf q) h, ne-eqb (bit (m .loaded) r) 0 (λ z. d (b ∙ z)))
 
-  pub load-goes : (v w : ℕ) (s : List Held) → r < relationsOf q → v ≡ bit (m .loaded) r → v ≡ 0 → w ≡ 2 ^ r →
-      s ≡ record { set = w; site = home q r; origin = Bare; figure = charge 0 } ∷ m .stack → o ≡ went (record { loaded = m .loaded + w; stack = s }) → o ≡ load q r m
+  pub load-goes : (v w k : ℕ) (s : List Held) → r < relationsOf q → v ≡ bit (m .loaded) r → v ≡ 0 → w ≡ 2 ^ r → k ≡ home q r →
+      s ≡ record { set = w; site = k; origin = Bare; figure = charge 0 } ∷ m .stack → o ≡ went (record { loaded = m .loaded + w; stack = s }) → o ≡ load q r m
   unfolding load
-  load-goes v w s h b z k f e = e ∙ rw (f, k, lt-ltb r (relationsOf q) h, eq-eqb (bit (m .loaded) r) 0 (sym b ∙ z))
+  load-goes v w k s h b z p at f e = e ∙ rw (f, p, at, lt-ltb r (relationsOf q) h, eq-eqb (bit (m .loaded) r) 0 (sym b ∙ z))
 
 -- The tests of a send and of a join: the sites, a flag, and the results.
-pub allowed-is : (x y z : Bool) (v w : ℕ) → v ≡ w → y ≡ z → ((x && eqb v 1) && y) ≡ ((x && eqb w 1) && z)
+pub allowed-is : (x y z v w : Bool) → v ≡ w → y ≡ z → ((x && v) && y) ≡ ((x && w) && z)
 allowed-is x y z v w e f = rw (e, f)
 
 -- A send.
@@ -63,10 +63,10 @@ module _ (q : Query) (t L : ℕ) (o : Outcome) where
   send-goes s hs s′ h g b l f may good made f′ e = e ∙ rw (f′, made, f, lt-ltb t (sitesOf q) l, sym may ∙ good)
 
 -- A join.
-pub links-is : (J : Joins) (e P R a b c d : ℕ) → a ≡ bit P (first J e) → b ≡ bit R (second J e) → c ≡ bit P (second J e) → d ≡ bit R (first J e) →
+pub links-is : (J : Joins) (e P R f s a b c d : ℕ) → f ≡ first J e → s ≡ second J e → a ≡ bit P f → b ≡ bit R s → c ≡ bit P s → d ≡ bit R f →
     (eqb (a + b) 2 || eqb (c + d) 2) ≡ links J e P R
 unfolding links
-links-is J e P R a b c d p q r s = rw (p, q, r, s)
+links-is J e P R f s a b c d x y p q r t = rw (p, q, r, t, x, y)
 
 module _ (q : Query) (e L : ℕ) (o : Outcome) (fewer : q .joins .count + 1 ≡ relationsOf q) where
   known : e < q .joins .count → ltb e (relationsOf q - 1) ≡ true

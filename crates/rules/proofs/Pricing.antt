@@ -1,9 +1,10 @@
 -- What a send and a join make, from the numbers that the code looks up: the prices are the query's, and every number is within its limit.
 use Prim.Native.Nat.{ℕ, _+_, _*_, _^_, _≤_, _<_}
 use mathlib.Core.Path.{_≡_, sym, _∙_}
-use mathlib.Core.Bool.{Bool, _&&_}
+use mathlib.Core.Bool.{Bool, false, _&&_}
 use mathlib.Core.List.{List}
 use native.Mathlib.Omega.{arith}
+use lib.Dec.{eqb}
 use lib.ListN.{length, getD, List·getD-eq-default}
 use lib.Dec.{eqb}
 use lib.Pow.{pow-mono}
@@ -37,6 +38,13 @@ past-end l i h = sym (List·getD-eq-default l 0 h)
 
 pub no-line : (l : List ℕ) (a b : ℕ) → length l ≡ 64 → 8 ≤ a → 0 ≡ getD l (8 * a + b) 0
 no-line l a b e h = past-end l (8 * a + b) (omega arith)
+
+-- So no flag is set there.
+pub no-flag : (l : List ℕ) (i : ℕ) → length l ≤ i → false ≡ eqb (getD l i 0) 1
+no-flag l i h = rw (← past-end l i h)
+
+pub no-open-line : (l : List ℕ) (a b : ℕ) → length l ≡ 64 → 8 ≤ a → false ≡ eqb (getD l (8 * a + b) 0) 1
+no-open-line l a b e h = no-flag l (8 * a + b) (omega arith)
 
 pub spared-is : (R : Relations) (h : Held) (a b : Bool) → R .count ≤ 9 → h .set < 2 ^ R .count → a ≡ isBare (h .origin) →
     b ≡ indexedIn 9 (R .home) (R .index) (h .set) (h .site) → (a && b) ≡ spared (ofRelations R) h

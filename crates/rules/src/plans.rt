@@ -91,10 +91,10 @@ fn step_at(plan: &[u8], i: usize) -> Step
 // The steps of a plan in order, and the end condition.
 fn run<'a>(
     listed: Listed,
-    sizes: &'a [u64],
-    flag: &'a [u64],
-    fixed: &'a [u64],
-    rate: &'a [u64],
+    sizes: &'a [u32],
+    flag: &'a [u8],
+    fixed: &'a [u32],
+    rate: &'a [u32],
     target: usize,
     plan: &[u8],
     count: usize,

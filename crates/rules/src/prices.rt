@@ -7,25 +7,27 @@ use query::Bytes;
 use query::Charge;
 use query::Relations;
 use query::Sites;
+use query::amount;
 use query::price;
 ghost use Prim.Native.Nat.{_+_, _*_, _^_, _≤_, _<_};
 ghost use mathlib.Core.Path.{_≡_};
 ghost use mathlib.Core.List.{[]};
 ghost use lib.ListN.{length, getD};
+ghost use Rattle.relations.specs.Code.{mostSets};
 ghost use Rattle.query.specs.Query.{UpTo};
 ghost use Rattle.query.specs.Prices.{joinPrice, dearestJoin};
 ghost use Rattle.rules.specs.Machine.{isBare, spared, sentTo, joinOf};
 ghost use Rattle.rules.specs.Code.{ofRelations, ofLines, ofSites, ofListed, Amounts};
 
 // The number at a place of a list, and 0 past its end.
-pub(crate) fn at(list: &[u64], i: usize) -> u64
+fn at(list: &[u32], i: usize) -> u64
     ensures { λ r. ⌜ r ≡ getD (now (list .entry)) i 0 ⌝ }
 {
-    if i < list.len() { list[i] } else { 0 }
+    if i < list.len() { amount(list[i]) } else { 0 }
 }
 
 // The size of a set.
-fn size_at(sizes: &[u64], set: usize) -> Bytes
+fn size_at(sizes: &[u32], set: usize) -> Bytes
     requires { ⌜ (UpTo 1000000000 (now sizes)) ⌝ }
     ensures { λ r. ⌜ (r .0 ≡ getD (now (sizes .entry)) set 0) × (r .0 ≤ 1000000000) ⌝ }
 {
@@ -33,7 +35,7 @@ fn size_at(sizes: &[u64], set: usize) -> Bytes
 }
 
 // The fixed amount of joining at a site.
-fn fixed_at(fixed: &[u64], site: usize) -> Charge
+fn fixed_at(fixed: &[u32], site: usize) -> Charge
     requires { ⌜ (UpTo 1000000 (now fixed)) ⌝ }
     ensures { λ r. ⌜ (r .0 ≡ getD (now (fixed .entry)) site 0) × (r .0 ≤ 1000000) ⌝ }
 {
@@ -41,18 +43,18 @@ fn fixed_at(fixed: &[u64], site: usize) -> Charge
 }
 
 // The number that a list over all lines has for the line from a to b.
-pub(crate) fn line_at(list: &[u64], a: usize, b: usize) -> u64
+fn line_at(list: &[u32], a: usize, b: usize) -> u64
     requires { ⌜ (length (now list) ≡ 64) × (b < 8) ⌝ }
     ensures { λ r. ⌜ r ≡ getD (now (list .entry)) (8 * a + b) 0 ⌝ }
 {
-    if a < 8 { list[8 * a + b] } else { 0 }
+    if a < 8 { at(list, 8 * a + b) } else { 0 }
 }
 
 // The top as it arrives at t.
 pub(crate) fn sent<'a>(
-    sizes: &'a [u64],
-    fixed: &'a [u64],
-    rate: &'a [u64],
+    sizes: &'a [u32],
+    fixed: &'a [u32],
+    rate: &'a [u32],
     top: Held,
     t: usize,
 ) -> Held
@@ -96,14 +98,14 @@ fn is_spared(relations: Relations, h: Held) -> bool
 // The price of joining sets a and b at a site, with whether the reads of each are spared.
 fn join_price(
     sites: Sites,
-    sizes: &[u64],
+    sizes: &[u32],
     site: usize,
     one: bool,
     a: usize,
     other: bool,
     b: usize,
 ) -> Charge
-    requires { ⌜ Amounts (now sizes) (sites .fixed) (sites .rate) × (a + b < 512) ⌝ }
+    requires { ⌜ Amounts (now sizes) (sites .fixed) (sites .rate) × (a + b < mostSets) ⌝ }
     ensures { λ r. ⌜ (r .0 ≡ joinPrice (ofSites sites (now (sizes .entry))) site one a other b) × (r .0 ≤ dearestJoin) ⌝ }
 {
     let read = price::reads(
@@ -119,7 +121,7 @@ fn join_price(
 }
 
 // What joining a and b, at the site of both, makes.
-pub(crate) fn joined(listed: Listed, sizes: &[u64], a: Held, b: Held) -> Held
+pub(crate) fn joined(listed: Listed, sizes: &[u32], a: Held, b: Held) -> Held
     requires { ⌜ Amounts (now sizes) (listed .sites .fixed) (listed .sites .rate) ⌝ }
     requires { ⌜ (listed .relations .count ≤ 9) × (a .set + b .set < 2 ^ listed .relations .count) × (a .figure .0 + b .figure .0 < 2 ^ 62) ⌝ }
     ensures { λ r. ⌜ r ≡ joinOf _+_ (ofListed listed (now (sizes .entry))) a b ⌝ }

@@ -7,9 +7,7 @@ use crate::Stack;
 use crate::State;
 use crate::Step;
 use crate::Stepped;
-use crate::prices::at;
 use crate::prices::joined;
-use crate::prices::line_at;
 use crate::prices::sent;
 use crate::stacking::pop;
 use crate::stacking::pop_two;
@@ -18,6 +16,7 @@ use query::Charge;
 use query::Relations;
 use relations::bit;
 use relations::single;
+use relations::wide;
 ghost use Prim.Native.Nat.{_+_, _*_, _≤_, _<_};
 ghost use mathlib.Core.Path.{_≡_};
 ghost use mathlib.Core.Bool.{_&&_, not};
@@ -60,9 +59,10 @@ fn load(relations: Relations, state: State, r: usize) -> Stepped
         return refused(state, 9);
     }
     let set = single(r);
+    let site = wide(relations.home[r]);
     let bare = Held {
         set,
-        site: relations.home[r],
+        site,
         origin: Origin::Bare,
         figure: Charge(0),
     };
@@ -81,24 +81,42 @@ fn is_sent(origin: Origin) -> bool
     }
 }
 
+// The flag at a place of a list is set. Past its end none is.
+fn is_set(list: &[u8], i: usize) -> bool
+    ensures { λ r. ⌜ r ≡ eqb (getD (now (list .entry)) i 0) 1 ⌝ }
+{
+    if i < list.len() { list[i] == 1 } else { false }
+}
+
+// The line from a to b is open.
+fn is_open(flag: &[u8], a: usize, b: usize) -> bool
+    requires { ⌜ (length (now flag) ≡ 64) × (b < 8) ⌝ }
+    ensures { λ r. ⌜ r ≡ eqb (getD (now (flag .entry)) (8 * a + b) 0) 1 ⌝ }
+{
+    if a < 8 {
+        is_set(flag, 8 * a + b)
+    } else {
+        false
+    }
+}
+
 // The top may be sent to t: it stands elsewhere, the line is open, and it was not made by a send.
-fn may_send(flag: &[u64], top: Held, t: usize) -> bool
+fn may_send(flag: &[u8], top: Held, t: usize) -> bool
     requires { ⌜ (length (now flag) ≡ 64) × (t < 8) ⌝ }
     ensures { λ r. ⌜ r ≡ ((not (eqb (top .site) t) && eqb (getD (now (flag .entry)) (8 * top .site + t) 0) 1) && not (isSent (top .origin))) ⌝ }
 {
     let from = top.site;
     let origin = top.origin;
-    let opened = line_at(flag, from, t) == 1;
-    (from != t) & opened & !is_sent(origin)
+    (from != t) & is_open(flag, from, t) & !is_sent(origin)
 }
 
 // 2, send to t: moves the top to t.
 fn send<'a>(
     count: usize,
-    sizes: &'a [u64],
-    flag: &'a [u64],
-    fixed: &'a [u64],
-    rate: &'a [u64],
+    sizes: &'a [u32],
+    flag: &'a [u8],
+    fixed: &'a [u32],
+    rate: &'a [u32],
     state: State,
     t: usize,
 ) -> Stepped
@@ -128,16 +146,16 @@ fn may_join(listed: Listed, a: Held, b: Held, e: usize) -> bool
     ensures { λ r. ⌜ r ≡ ((eqb (a .site) (b .site) && eqb (getD (listed .sites .may) (b .site) 0) 1) && links (listed .joins) e (a .set) (b .set)) ⌝ }
 {
     let joins = listed.joins;
-    let f = joins.first[e];
-    let s = joins.second[e];
+    let f = wide(joins.first[e]);
+    let s = wide(joins.second[e]);
     let linked = (bit(a.set, f) + bit(b.set, s) == 2) | (bit(a.set, s) + bit(b.set, f) == 2);
     let sites = listed.sites;
     let site = b.site;
-    (a.site == site) & (at(&sites.may, site) == 1) & linked
+    (a.site == site) & is_set(&sites.may, site) & linked
 }
 
 // 3, join e: the top two become one.
-fn join(listed: Listed, sizes: &[u64], state: State, e: usize) -> Stepped
+fn join(listed: Listed, sizes: &[u32], state: State, e: usize) -> Stepped
     requires { ⌜ (listed .relations .count ≤ 9) × (listed .joins .count + 1 ≡ listed .relations .count) ⌝ }
     requires { ⌜ Amounts (now sizes) (listed .sites .fixed) (listed .sites .rate) × Room (listed .relations .count) mostSteps (machineOf state) ⌝ }
     ensures { λ out. ⌜ outcomeOf out ≡ join _+_ (ofListed listed (now (sizes .entry))) e (machineOf state) ⌝ }
@@ -163,10 +181,10 @@ fn join(listed: Listed, sizes: &[u64], state: State, e: usize) -> Stepped
 // A step by its kind and argument. Refusal 8: unknown kind, or argument not in the query.
 pub(crate) fn step<'a>(
     listed: Listed,
-    sizes: &'a [u64],
-    flag: &'a [u64],
-    fixed: &'a [u64],
-    rate: &'a [u64],
+    sizes: &'a [u32],
+    flag: &'a [u8],
+    fixed: &'a [u32],
+    rate: &'a [u32],
     state: State,
     next: Step,
 ) -> Stepped

@@ -3,13 +3,12 @@
 use Prim.Native.Nat.{ℕ, _+_, _*_, _^_, _≤_, _<_}
 use native.Mathlib.Nat.{mul-le-mul}
 use native.Mathlib.Omega.{arith}
-use mathlib.Core.Path.{_≡_, refl, sym, ap, subst, _∙_}
+use mathlib.Core.Path.{_≡_, refl, sym, ap, _∙_}
 use mathlib.Core.List.{List, _++_}
 use lib.ListN.{length, getD, drop}
 use lib.Pow.{pow-mono}
 use Rattle.relations.specs.Sets.{all}
-use Rattle.relations.specs.Trees.{Tree}
-use Rattle.relations.specs.Code.{Drawn}
+use Rattle.relations.specs.Code.{mostSets}
 use Rattle.relations.specs.Table.{TableOf}
 use Rattle.relations.proofs.Bits.{all-below}
 use Rattle.relations.proofs.Subqueries.{subqueries-law}
@@ -17,7 +16,6 @@ use Rattle.query.specs.declared.Query.{Query}
 use Rattle.query.specs.Query.{Valid, relationsOf, sitesOf}
 use Rattle.query.specs.Cost.{Cost, none, some}
 use Rattle.rules.specs.Combine.{Combines}
-use Rattle.rules.proofs.Combinations.{plus-combines}
 use Rattle.tables.specs.Tables.{cheapest}
 use Rattle.tables.specs.Plan.{written}
 use Rattle.tables.specs.Work.{cellsNeeded}
@@ -48,11 +46,11 @@ module _ (q : Query) (v : Valid q) (S : ℕ) (whole : S ≡ all (q .joins .count
   all-here : S ≡ all (relationsOf q)
   all-here = whole ∙ ap all (v .tree .joins)
 
-  pub all-low : (S < 512) × (q .target < 8)
+  pub all-low : (S < mostSets) × (q .target < 8)
   all-low = (set-low q v S (rw all-here (all-below (relationsOf q))), omega (arith, v .target-in, v .sites-most))
 
   module _ (at : ℕ) (is : at ≡ place S (q .target)) where
-    pub place-here : (at < cellsNeeded q) × (at < 4_096)
+    pub place-here : (at < cellsNeeded q) × (at < 8 * mostSets)
     unfolding place
     place-here = (omega (arith, place-low q S (q .target) (all-low .0) (all-low .1)), omega (arith, all-low))
 
@@ -91,10 +89,10 @@ Answered q old work answer plan left =
 
 -- What filling leaves: the trials are few, and the answer follows from what the query costs.
 module _ (q : Query) (old work : List ℕ) (r : ℕ) (f : FilledFrom _+_ q old work r) where
-  pub trials-few : Valid q → sitesOf q * r ≤ 8 * 4_096
+  pub trials-few : Valid q → sitesOf q * r ≤ 8 * (8 * mostSets)
   trials-few v =
       let sets : 2 ^ relationsOf q ≤ 2 ^ 9 = pow-mono (v .relations-most) in
-      let few : r ≤ 4_096 = omega (arith, f .joins, joins-below (q .joins) (relationsOf q) (2 ^ relationsOf q) sets) in
+      let few : r ≤ 8 * mostSets = omega (arith, f .joins, joins-below (q .joins) (relationsOf q) (2 ^ relationsOf q) sets) in
       mul-le-mul (v .sites-most) few
 
   pub answer-found : (c n : ℕ) (plan left : List ℕ) → cheapest _+_ q ≡ some c →

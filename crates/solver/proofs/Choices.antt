@@ -14,9 +14,10 @@ use lib.Pow.{pow-mono, pow-lt}
 use mir.Syntax.{w64}
 use mir.Val.{Fits}
 use borrow.Author.Tests.{eq-eqb, ne-eqb}
+use Rattle.relations.specs.Code.{mostSets}
 use Rattle.relations.specs.Sets.{bit}
 use Rattle.relations.proofs.Connected.{subquery-range}
-use Rattle.relations.proofs.Turns.{below-512}
+use Rattle.relations.proofs.Turns.{below-sets}
 use Rattle.query.specs.declared.Query.{Query}
 use Rattle.query.specs.Choice.{pick}
 use Rattle.query.specs.Query.{relationsOf, sitesOf}
@@ -107,8 +108,8 @@ module _ (combine : ℕ → ℕ → ℕ) (C : Combines combine) (q : Query) (l :
   low : S < 2 ^ relationsOf q
   low = subquery-range (q .joins) (relationsOf q) S (k .subquery) .1
 
-  pub known-low : S < 512
-  known-low = below-512 S (relationsOf q) (k .laid .valid .relations-most) low
+  pub known-low : S < mostSets
+  known-low = below-sets S (relationsOf q) (k .laid .valid .relations-most) low
 
   pub filled-here : Filled combine q (l .work) S
   filled-here = record { room = k .filled .room; each = λ T t h s m. k .filled .each T t (omega (arith, low)) s m }

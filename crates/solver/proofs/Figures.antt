@@ -10,6 +10,7 @@ use lib.Dec.{ltb}
 use mir.Syntax.{w64}
 use mir.Val.{Fits}
 use borrow.Author.Tests.{lt-ltb, le-ltb, ltb-true}
+use Rattle.relations.specs.Code.{mostSets}
 use Rattle.query.specs.Choice.{pick}
 use Rattle.solver.specs.declared.cells.Choice.{Choice}
 use Rattle.solver.specs.Cells.{place, noneMark, lesser, leastOf, placeOf, ChoiceOf, betterOf}
@@ -23,7 +24,7 @@ pub place-apart : (S T t u : ℕ) → t < 8 → u < 8 → place S t ≡ place T 
 unfolding place
 place-apart S T t u h g e = (omega arith, omega arith)
 
-pub place-fits : (S t at : ℕ) → S < 512 → t < 8 → at ≡ place S t → Fits w64 (at * 8)
+pub place-fits : (S t at : ℕ) → S < mostSets → t < 8 → at ≡ place S t → Fits w64 (at * 8)
 unfolding place
 place-fits S t at h g e = omega arith
 

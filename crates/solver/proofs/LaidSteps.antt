@@ -33,18 +33,23 @@ spared-lane h k i = go (eqb h k) (eqb i 1) refl
     go false false e = rw (bit-none k)
 
 -- The rows of the joins and of joining: each is laid once, and no later row of the four touches it.
-pub joining-laid : (a b c d e v w f ends sides : List ℕ) (s : Sites) → length a ≡ 256 →
+pub joining-laid : (a b c d e v w f g ends sides : List ℕ) (s : Sites) → length a ≡ 256 →
     Lanes v (λ i. getD ends i 0) → Laid a b 0 (λ i. getD v i 0) 8 → Lanes w (λ i. getD sides i 0) → Laid b c 1 (λ i. getD w i 0) 8 →
-    Lanes f (λ k. ifFlagged (getD (s .may) k 0) (getD (s .fixed) k 0)) → Laid c d 2 (λ k. getD f k 0) 8 → Laid d e 3 (λ k. getD (s .rate) k 0) 8 →
+    Lanes f (λ k. ifFlagged (getD (s .may) k 0) (getD (s .fixed) k 0)) → Laid c d 2 (λ k. getD f k 0) 8 →
+    Lanes g (λ k. getD (s .rate) k 0) → Laid d e 3 (λ k. getD g k 0) 8 →
     JoiningLaid e ends sides s
-joining-laid a b c d e v w f ends sides s n vs one ws two fs three four =
+joining-laid a b c d e v w f g ends sides s n vs one ws two fs three gs four =
     record {
       long = four .kept .long ∙ three .kept .long ∙ two .kept .long ∙ one .kept .long ∙ n;
       ends-row = λ i h. four .kept .below (0 + i) (omega arith) ∙ three .kept .below (0 + i) (omega arith) ∙ two .kept .below (0 + i) (omega arith) ∙ one .each i h ∙ vs .each i h;
       sides-row = λ i h. four .kept .below (8 + i) (omega arith) ∙ three .kept .below (8 + i) (omega arith) ∙ two .each i h ∙ ws .each i h;
       fixed-row = λ k h. four .kept .below (16 + k) (omega arith) ∙ three .each k h ∙ fs .each k h;
-      rate-row = four .each;
+      rate-row = λ k h. four .each k h ∙ gs .each k h;
     }
+
+-- A home that was looked up is a bit of a word.
+pub home-within : (home : List ℕ) (count r k : ℕ) → ((i : ℕ) → i < count → getD home i 0 < 64) → k ≡ getD home r 0 → r < count → k < 64
+home-within home count r k low at h = rw at (low r h)
 
 -- The relations: none, one more, and all of them.
 module _ (home index : List ℕ) where
@@ -54,10 +59,10 @@ module _ (home index : List ℕ) where
   pub relations-long : (old a : List ℕ) (r i v : ℕ) → RelationsLaid old a home index r → length old ≡ 256 → length (set a i v) ≡ 256
   relations-long old a r i v l n = length-set a i v ∙ l .kept .long ∙ n
 
-  pub relations-more : (old a b row : List ℕ) (r v s : ℕ) → RelationsLaid old a home index r → r < 9 → length old ≡ 256 →
-      v ≡ 2 ^ getD home r 0 → s ≡ pick (eqb (getD index r 0) 1) v 0 → Lanes row (λ k. countedMask (eqb (bit s k) 1)) →
+  pub relations-more : (old a b row : List ℕ) (r k v s : ℕ) → RelationsLaid old a home index r → r < 9 → length old ≡ 256 →
+      k ≡ getD home r 0 → v ≡ 2 ^ k → s ≡ pick (eqb (getD index r 0) 1) v 0 → Lanes row (λ k. countedMask (eqb (bit s k) 1)) →
       Laid (set a (240 + r) v) b (4 + r) (λ k. getD row k 0) 8 → RelationsLaid old b home index (r + 1)
-  relations-more old a b row r v s l h n homes spared lanes laid =
+  relations-more old a b row r k v s l h n at of spared lanes laid =
       record {
         kept = kept-then old mid b 32 256 (8 * (4 + r)) (8 * (4 + r) + 8) 32 256
             (kept-then old a mid 32 256 (240 + r) (241 + r) 32 256 (l .kept) stored (omega arith) (omega arith) (omega arith) (omega arith)) (laid .kept)
@@ -68,6 +73,9 @@ module _ (home index : List ℕ) where
             (laid .kept .above (240 + r) (omega arith) ∙ getD-set-same a (240 + r) v 0 (omega (arith, l .kept .long)) ∙ homes);
       }
     where
+      homes : v ≡ 2 ^ getD home r 0
+      homes = cc
+
       mid : List ℕ
       mid = set a (240 + r) v
 

@@ -1,18 +1,19 @@
 -- Where cells stand: the cells of a query's sets lie within what a solve needs, and no two of them are one.
-use Prim.Native.Nat.{ℕ, _+_, _*_, _^_, _≤_, _<_}
+use Prim.Native.Nat.{ℕ, _^_, _<_}
 use native.Mathlib.Omega.{arith}
 use mathlib.Core.Path.{_≡_}
-use Rattle.relations.proofs.Turns.{below-512}
+use Rattle.relations.specs.Code.{mostSets}
+use Rattle.relations.proofs.Turns.{below-sets}
 use Rattle.query.specs.declared.Query.{Query}
 use Rattle.query.specs.Query.{Valid, relationsOf}
 use Rattle.tables.specs.Work.{cellsNeeded}
 use Rattle.solver.specs.Cells.{place}
 
 -- A set of relations is below 512.
-pub set-low : (q : Query) → Valid q → (S : ℕ) → S < 2 ^ relationsOf q → S < 512
-set-low q v S h = below-512 S (relationsOf q) (v .relations-most) h
+pub set-low : (q : Query) → Valid q → (S : ℕ) → S < 2 ^ relationsOf q → S < mostSets
+set-low q v S h = below-sets S (relationsOf q) (v .relations-most) h
 
-pub place-low : (q : Query) (S t : ℕ) → S < 512 → t < 8 → place S t < cellsNeeded q
+pub place-low : (q : Query) (S t : ℕ) → S < mostSets → t < 8 → place S t < cellsNeeded q
 unfolding place cellsNeeded
 place-low q S t h g = omega arith
 

@@ -1,13 +1,14 @@
 -- A turn of the loop over the sets, for each query of which the loop holds the lists: the table tells whether the set is a subquery and which joins are
 -- in it, and the cells that are stored for it are Delivered.
-use Prim.Native.Nat.{ℕ, _+_, _-_, _*_, _/_, _%_, _^_, _≤_, _<_}
+use Prim.Native.Nat.{ℕ, _+_, _-_, _*_, _%_, _^_, _≤_, _<_}
 use native.Mathlib.Omega.{arith}
-use mathlib.Core.Path.{_≡_, refl, sym, ap, subst, _∙_}
+use mathlib.Core.Path.{_≡_, sym, ap, _∙_}
 use mathlib.Core.Bool.{Bool, true, false}
 use mathlib.Core.List.{List}
 use lib.Count.{ones, ones-le}
-use lib.ListN.{length, getD}
+use lib.ListN.{getD}
 use lib.Pow.{pow-pos, pow-mono}
+use Rattle.relations.specs.Code.{mostSets}
 use Rattle.relations.specs.Trees.{isSubquery, Subquery}
 use Rattle.relations.specs.Table.{joinBits, isConnected}
 use Rattle.relations.proofs.Entries.{tested, entry-joins}
@@ -30,7 +31,7 @@ module _ (q : Query) (l : Lent) (table : List ℕ) (f : Fillable q l table) wher
   pub end-is : (e : ℕ) → e ≡ 2 ^ (joinsAt (l .board) + 1) → e ≡ 2 ^ relationsOf q
   end-is e h = h ∙ ap (λ (m : ℕ). 2 ^ (m + 1)) (f .laid .board .joins) ∙ ap (λ (n : ℕ). 2 ^ n) (f .laid .valid .tree .joins)
 
-  pub end-low : (e : ℕ) → e ≡ 2 ^ relationsOf q → (1 ≤ e) × (e ≤ 512)
+  pub end-low : (e : ℕ) → e ≡ 2 ^ relationsOf q → (1 ≤ e) × (e ≤ mostSets)
   end-low e h = (omega (arith, pow-pos (relationsOf q)), omega (arith, pow-mono {i = relationsOf q} {j = 9} (f .laid .valid .relations-most)))
 
 module _ (combine : ℕ → ℕ → ℕ) (C : Combines combine) (b sizes table old work : List ℕ) (S tried e : ℕ) (q : Query) (f : Fillable q (lent b sizes old) table)
@@ -48,9 +49,9 @@ module _ (combine : ℕ → ℕ → ℕ) (C : Combines combine) (b sizes table o
   pub ones-few : ones S ≤ 9
   ones-few = let low : S < 2 ^ 9 = omega (arith, pow-mono {i = relationsOf q} {j = 9} (f .laid .valid .relations-most)) in ones-le 9 S low
 
-  pub tried-few : tried ≤ 4096
+  pub tried-few : tried ≤ 8 * mostSets
   tried-few =
-      let low : S ≤ 512 = omega (arith, pow-mono {i = relationsOf q} {j = 9} (f .laid .valid .relations-most)) in
+      let low : S ≤ mostSets = omega (arith, pow-mono {i = relationsOf q} {j = 9} (f .laid .valid .relations-most)) in
       omega (arith, g .joins, joins-below (q .joins) (relationsOf q) S low)
 
   pub turn-skip : d ≡ false → Going combine q old work (S + 1) tried

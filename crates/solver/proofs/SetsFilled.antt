@@ -1,6 +1,6 @@
 -- Sets in ascending number: each set leaves the cells of every subquery below the next set filled, the later cells as they were, and the joins counted.
 use Prim.Native.Nat.{ℕ, zero, suc, _+_, _-_, _*_, _^_, _≤_, _<_}
-use native.Mathlib.Nat.{le-refl, le-of-suc-le-suc, eq-or-lt-of-le, le-antisymm}
+use native.Mathlib.Nat.{le-refl, le-of-suc-le-suc, eq-or-lt-of-le}
 use native.Mathlib.Numerals.{add-one}
 use native.Mathlib.Omega.{arith}
 use mathlib.Core.Path.{_≡_, refl, sym, ap, subst, _∙_}
@@ -9,8 +9,8 @@ use mathlib.Core.Logic.{_⊎_, inl, inr}
 use mathlib.Core.List.{List}
 use lib.Count.{ones, ones-le}
 use lib.ListN.{length, getD, drop, length-drop}
-use lib.Pow.{pow-pos, pow-mono}
 use lib.Seq.{ext-getD, getD-drop}
+use Rattle.relations.specs.Code.{mostSets}
 use Rattle.relations.specs.declared.Joins.{Joins}
 use Rattle.relations.specs.Trees.{isSubquery, Subquery}
 use Rattle.relations.proofs.Counts.{ones-zero}
@@ -39,7 +39,7 @@ later-same n old new long same =
     (λ i h. getD-drop n new i 0 ∙ same (n + i) (omega arith) ∙ sym (getD-drop n old i 0))
 
 -- The joins in the subqueries below m are few.
-pub joins-below : (J : Joins) (n m : ℕ) → m ≤ 512 → joinsBelow J n m ≤ 8 * m
+pub joins-below : (J : Joins) (n m : ℕ) → m ≤ mostSets → joinsBelow J n m ≤ 8 * m
 unfolding joinsBelow
 joins-below J n zero h = le-refl _
 joins-below J n (suc m) h = go (isSubquery J n m) (joins-below J n m (omega arith))
@@ -95,7 +95,7 @@ module _ (combine : ℕ → ℕ → ℕ) (q : Query) (v : Valid q) where
     pub going-on : (new : List ℕ) (f : ℕ → ℕ) → Subquery (q .joins) (relationsOf q) S → Stored work new S f →
         ((t : ℕ) → t < 8 → f t ≡ mark (delivered combine q S t)) → Going combine q old new (S + 1) (tried + (ones S - 1))
     going-on new f s stored is =
-        let low : S < 512 = set-low q v S (subquery-range (q .joins) (relationsOf q) S s .1) in
+        let low : S < mostSets = set-low q v S (subquery-range (q .joins) (relationsOf q) S s .1) in
         let same : drop (cellsNeeded q) new ≡ drop (cellsNeeded q) work =
         later-same (cellsNeeded q) work new (stored .long) (λ i h. stored .other i (λ t m e. omega (arith, place-low q S t low m))) in
         record {

@@ -4,6 +4,7 @@ use mathlib.Core.Path.{_≡_}
 use mathlib.Core.List.{List}
 use lib.ListN.{length, getD, drop}
 use lib.Count.{ones}
+use Rattle.relations.specs.Code.{mostSets}
 use Rattle.relations.specs.Trees.{Subquery}
 use Rattle.relations.specs.Table.{Tabled}
 use Rattle.query.specs.declared.Query.{Query}
@@ -27,7 +28,7 @@ pub record Filled (combine : ℕ → ℕ → ℕ) (q : Query) (work : List ℕ) 
 
 -- What filling the cells of one set asks: it has one relation where it has no join, its joins can be tried, and its figures sent.
 pub record Startable (l : Lent) (joins S : ℕ) : Type 0 where
-  pub set-in : S < 512
+  pub set-in : S < mostSets
   pub alone : joins ≡ 0 → ones S ≡ 1
   pub joinable : Joinable l joins S
   pub carriable : Carriable (l .board) (sizeIn l S)

@@ -7,10 +7,11 @@ use lib.Bits.{bitAnd}
 use lib.Count.{trailingZeros}
 use lib.Dec.{eqb}
 use lib.ListN.{length, getD}
+use Rattle.relations.specs.Code.{mostSets}
 use Rattle.relations.specs.Sets.{bit}
 use Rattle.query.specs.Choice.{pick}
 use Rattle.query.specs.Query.{UpTo}
-use Rattle.query.specs.Prices.{reads}
+use Rattle.query.specs.Prices.{lineCharge, reads, joinCharge}
 use Rattle.query.specs.Masks.{IsMask}
 use Rattle.solver.specs.Cells.{place, noneMark, leastOf, placeOf}
 use Rattle.solver.specs.Board.{sideAt, fixedAt, rateAt, countedAt, lineFixedAt, lineRateAt, homesAt, sitesAt}
@@ -33,12 +34,12 @@ cellIn l S k = getD (l .work) (place S k) 0
 -- The price of joining P and R at site k: the fixed amount, and the rate for what is read and for the result.
 abbrev pub priceIn : (board sizes : List ℕ) → (P R k : ℕ) → ℕ
 priceIn b sizes P R k =
-    fixedAt b k + rateAt b k * (reads (eqb (countedAt b P k) 0) (getD sizes P 0) (eqb (countedAt b R k) 0) (getD sizes R 0) + getD sizes (P + R) 0)
+    joinCharge (fixedAt b k) (rateAt b k) (reads (eqb (countedAt b P k) 0) (getD sizes P 0) (eqb (countedAt b R k) 0) (getD sizes R 0)) (getD sizes (P + R) 0)
 
 -- What a price asks.
 pub record Priced (b sizes : List ℕ) (P R k : ℕ) : Type 0 where
   pub site-in : k < 8
-  pub set-in : P + R < 512
+  pub set-in : P + R < mostSets
   pub fixed-most : fixedAt b k ≤ noneMark
   pub rate-most : rateAt b k ≤ 1_000
   pub first-mask : IsMask (countedAt b P k)
@@ -84,7 +85,7 @@ startIn combine l joins S k = pick (eqb joins 0) (bareAt (homesAt (l .board) (tr
 
 -- The carriage of a size from site k to site t.
 unfoldable pub carriageIn : List ℕ → (size k t : ℕ) → ℕ
-carriageIn b size k t = lineFixedAt b k t + lineRateAt b k t * size
+carriageIn b size k t = lineCharge (lineFixedAt b k t) (lineRateAt b k t) size
 
 -- What carriages ask.
 pub record Carriable (b : List ℕ) (size : ℕ) : Type 0 where

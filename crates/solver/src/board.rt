@@ -1,6 +1,7 @@
 // The board: the query as the loops take it, laid out once a solve in 32 rows of eight lanes. Lane k of row i stands at 8 * i + k.
 ghost use Prim.Native.Nat.{_*_, _+_, _<_};
 ghost use mathlib.Core.Path.{_≡_};
+ghost use Rattle.relations.specs.Code.{mostSets};
 ghost use Rattle.solver.specs.Board.{endsAt, sideAt, countedRow, countedAt, homesAt, joinsAt, sitesAt};
 
 // The ends and the side of each join, the fixed amount and the rate of joining at each site.
@@ -67,7 +68,7 @@ pub(crate) fn sites_of(board: &[u64; 256]) -> usize
 
 // The row of the masks of a set's read: its relation's, or that of joined results.
 fn counted_row(set: usize) -> usize
-    requires { ⌜ set < 512 ⌝ }
+    requires { ⌜ set < mostSets ⌝ }
     ensures { λ r. ⌜ (r ≡ countedRow set) × (r < 14) ⌝ }
 {
     if usize::count_ones(set) == 1 {
@@ -78,7 +79,7 @@ fn counted_row(set: usize) -> usize
 
 // The mask of a set's read at site k.
 pub(crate) fn counted_at(board: &[u64; 256], set: usize, k: usize) -> u64
-    requires { ⌜ (set < 512) × (k < 8) ⌝ }
+    requires { ⌜ (set < mostSets) × (k < 8) ⌝ }
     ensures { λ r. ⌜ r ≡ countedAt (now (board .entry)) set k ⌝ }
 {
     let row = counted_row(set);

@@ -1,6 +1,7 @@
 // What a cell is: Delivered of a subquery at a site, or none. Where it stands in the work area, and which of two figures is kept.
 ghost use Prim.Native.Nat.{_+_, _^_, _≤_, _<_};
 ghost use mathlib.Core.Path.{_≡_};
+ghost use Rattle.relations.specs.Code.{mostSets};
 ghost use Rattle.solver.specs.Cells.{place, noneMark, lesser, betterOf};
 
 // The figure that stands for none: no sum of figures and prices comes near it, and no sum with it is below it.
@@ -14,7 +15,7 @@ pub struct Choice {
 
 // The place of a subquery's cell at a site.
 pub(crate) fn place(set: usize, site: usize) -> usize
-    requires { ⌜ (set < 512) × (site < 8) ⌝ }
+    requires { ⌜ (set < mostSets) × (site < 8) ⌝ }
     ensures { λ r. ⌜ r ≡ place set site ⌝ }
 {
     8 * set + site

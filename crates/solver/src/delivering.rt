@@ -8,9 +8,10 @@ use crate::cells::place;
 use query::Bytes;
 use query::Charge;
 use query::price::line_price;
-ghost use Prim.Native.Nat.{ℕ, _+_, _^_, _≤_, _<_};
+ghost use Prim.Native.Nat.{ℕ, _+_, _≤_, _<_};
 ghost use mathlib.Core.Path.{_≡_};
 ghost use lib.ListN.{getD};
+ghost use Rattle.relations.specs.Code.{mostSets};
 ghost use Rattle.solver.specs.Cells.{noneMark, Lanes, Marked, Tried, Roomy, Stored};
 ghost use Rattle.solver.specs.Board.{sitesAt};
 ghost use Rattle.solver.specs.Trials.{carriageIn, Carriable, deliveredIn};
@@ -54,7 +55,7 @@ fn delivered_row(board: &[u64; 256], row: &[u64; 8], size: Bytes) -> [u64; 8]
 
 // The cells of a subquery.
 fn store(work: &mut [u64], set: usize, row: &[u64; 8])
-    requires { ⌜ (set < 512) × Roomy (now work) set ⌝ }
+    requires { ⌜ (set < mostSets) × Roomy (now work) set ⌝ }
     ensures { λ _. ⌜ Stored (now (work .entry)) (now (work .exit)) set (λ (t : ℕ). getD (now (row .entry)) t 0) ⌝ }
 {
     let mut t = 0;
@@ -67,7 +68,7 @@ fn store(work: &mut [u64], set: usize, row: &[u64; 8])
 
 // The cells of a subquery from what it has cost at each site where it can start from.
 pub(crate) fn deliver(work: &mut [u64], board: &[u64; 256], row: &[u64; 8], size: Bytes, set: usize)
-    requires { ⌜ (Marked (now row) × Carriable (now board) (size .0)) × ((set < 512) × Roomy (now work) set) ⌝ }
+    requires { ⌜ (Marked (now row) × Carriable (now board) (size .0)) × ((set < mostSets) × Roomy (now work) set) ⌝ }
     ensures { λ _. ⌜ Stored (now (work .entry)) (now (work .exit)) set (deliveredIn (λ (k : ℕ). getD (now (row .entry)) k 0) (now (board .entry)) (size .0)) ⌝ }
 {
     let cells = delivered_row(board, row, size);

@@ -5,6 +5,7 @@ use crate::delivering::deliver;
 use crate::rows::bare_row;
 use crate::rows::joined_row;
 use crate::trials::size_of;
+use relations::SETS;
 use relations::is_connected;
 use relations::joins_in;
 use relations::single;
@@ -17,7 +18,7 @@ ghost use Rattle.solver.specs.Filling.{Startable, Fillable, FilledFrom};
 // Fills the cells of one subquery, whose joins are given as bits: none for one relation.
 fn fill_set<'a>(
     board: &'a [u64; 256],
-    sizes: &'a [u64; 512],
+    sizes: &'a [u32; SETS],
     work: &mut [u64],
     set: usize,
     joins: usize,
@@ -42,8 +43,8 @@ fn fill_set<'a>(
 // Fills the cells of every subquery, and counts the joins in all of them.
 pub(crate) fn fill<'a>(
     board: &'a [u64; 256],
-    sizes: &'a [u64; 512],
-    table: &'a [u32; 512],
+    sizes: &'a [u32; SETS],
+    table: &'a [u32; SETS],
     work: &mut [u64],
 ) -> u64
     requires { ⌜ ((q : Query) × Fillable q (lent (now board) (now sizes) (now work)) (now table)) ⌝ }

@@ -13,11 +13,13 @@ use crate::board::SITES;
 use crate::cells::NONE;
 use query::Query;
 use query::Sites;
+use query::amount;
 use query::price::mask;
 use relations::bit;
 use relations::ends;
 use relations::sides;
 use relations::single;
+use relations::wide;
 ghost use Prim.Native.Nat.{ℕ, _≤_, _<_};
 ghost use mathlib.Core.Path.{_≡_};
 ghost use lib.Dec.{eqb};
@@ -56,20 +58,33 @@ fn widened(sets: [usize; 8]) -> [u64; 8]
 }
 
 // An amount where the flag is set, else none.
-fn if_flagged(flag: u64, amount: u64) -> u64
+fn if_flagged(flag: u8, amount: u32) -> u64
     ensures { λ r. ⌜ r ≡ ifFlagged flag amount ⌝ }
 {
-    if flag == 1 { amount } else { NONE }
+    if flag == 1 { amount as u64 } else { NONE }
 }
 
 // The fixed amounts of joining: none where a site may not join.
-fn fixed_row<'a>(may: &'a [u64; 8], fixed: &'a [u64; 8]) -> [u64; 8]
+fn fixed_row<'a>(may: &'a [u8; 8], fixed: &'a [u32; 8]) -> [u64; 8]
     ensures { λ r. ⌜ Lanes r (λ (k : ℕ). ifFlagged (getD (now (may .entry)) k 0) (getD (now (fixed .entry)) k 0)) ⌝ }
 {
     let mut row = [NONE; 8];
     let mut k = 0;
     while k < 8 {
         row[k] = if_flagged(may[k], fixed[k]);
+        k += 1;
+    }
+    row
+}
+
+// The rates of joining.
+fn rate_row(rate: &[u32; 8]) -> [u64; 8]
+    ensures { λ r. ⌜ Lanes r (λ (k : ℕ). getD (now (rate .entry)) k 0) ⌝ }
+{
+    let mut row = [0u64; 8];
+    let mut k = 0;
+    while k < 8 {
+        row[k] = amount(rate[k]);
         k += 1;
     }
     row
@@ -83,7 +98,7 @@ fn lay_joining(board: &mut [u64; 256], ends: [usize; 8], sides: [usize; 8], site
     lay(&mut *board, ENDS, widened(ends));
     lay(&mut *board, SIDES, widened(sides));
     lay(&mut *board, FIXED, fixed_row(&sites.may, &sites.fixed));
-    lay(&mut *board, RATE, sites.rate);
+    lay(&mut *board, RATE, rate_row(&sites.rate));
 }
 
 // The masks of a relation's read, by the set of sites where it is spared.
@@ -100,26 +115,21 @@ fn counted_row(spared: usize) -> [u64; 8]
 }
 
 // The sites where the read of a relation is spared: where it stands, if it has its index.
-fn spared_at(index: u64, homes: usize) -> usize
+fn spared_at(index: u8, homes: usize) -> usize
     ensures { λ r. ⌜ r ≡ pick (eqb index 1) homes 0 ⌝ }
 {
     if index == 1 { homes } else { 0 }
 }
 
 // The rows of the relations.
-fn lay_relations<'a>(
-    board: &mut [u64; 256],
-    home: &'a [usize; 9],
-    index: &'a [u64; 9],
-    count: usize,
-)
+fn lay_relations<'a>(board: &mut [u64; 256], home: &'a [u8; 9], index: &'a [u8; 9], count: usize)
     requires { ⌜ (length (now board) ≡ 256) × (count ≤ 9) ⌝ }
     requires { ⌜ ((r : ℕ) → r < count → getD (now home) r 0 < 64) ⌝ }
     ensures { λ _. ⌜ RelationsLaid (now (board .entry)) (now (board .exit)) (now (home .entry)) (now (index .entry)) count ⌝ }
 {
     let mut r = 0;
     while r < count {
-        let homes = single(home[r]);
+        let homes = single(wide(home[r]));
         board[HOMES + r] = homes as u64;
         lay(
             &mut *board,
@@ -131,7 +141,7 @@ fn lay_relations<'a>(
 }
 
 // The fixed amounts of the lines of sender k: none where a line is closed, nothing to itself.
-fn line_fixed_row<'a>(flag: &'a [u64; 64], fixed: &'a [u64; 64], k: usize) -> [u64; 8]
+fn line_fixed_row<'a>(flag: &'a [u8; 64], fixed: &'a [u32; 64], k: usize) -> [u64; 8]
     requires { ⌜ k < 8 ⌝ }
     ensures { λ r. ⌜ Lanes r (lineFixedIn (now (flag .entry)) (now (fixed .entry)) k) ⌝ }
 {
@@ -146,14 +156,14 @@ fn line_fixed_row<'a>(flag: &'a [u64; 64], fixed: &'a [u64; 64], k: usize) -> [u
 }
 
 // The rates of the lines of sender k: nothing to itself.
-fn line_rate_row(rate: &[u64; 64], k: usize) -> [u64; 8]
+fn line_rate_row(rate: &[u32; 64], k: usize) -> [u64; 8]
     requires { ⌜ k < 8 ⌝ }
     ensures { λ r. ⌜ Lanes r (lineRateIn (now (rate .entry)) k) ⌝ }
 {
     let mut row = [0u64; 8];
     let mut t = 0;
     while t < 8 {
-        row[t] = rate[8 * k + t];
+        row[t] = amount(rate[8 * k + t]);
         t += 1;
     }
     row[k] = 0;
@@ -163,9 +173,9 @@ fn line_rate_row(rate: &[u64; 64], k: usize) -> [u64; 8]
 // The rows of the lines.
 fn lay_lines<'a>(
     board: &mut [u64; 256],
-    flag: &'a [u64; 64],
-    fixed: &'a [u64; 64],
-    rate: &'a [u64; 64],
+    flag: &'a [u8; 64],
+    fixed: &'a [u32; 64],
+    rate: &'a [u32; 64],
     count: usize,
 )
     requires { ⌜ (length (now board) ≡ 256) × (count ≤ 8) ⌝ }

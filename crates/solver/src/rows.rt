@@ -2,14 +2,13 @@
 use crate::board::side_at;
 use crate::cells::NONE;
 use crate::trials::try_split;
+use relations::SETS;
 use relations::bit;
 use relations::single;
 ghost use Prim.Native.Nat.{_+_};
 ghost use mathlib.Core.Path.{_≡_};
-ghost use lib.Dec.{eqb};
 ghost use Rattle.relations.specs.Sets.{bit};
-ghost use Rattle.query.specs.Choice.{pick};
-ghost use Rattle.solver.specs.Cells.{noneMark, Lanes, Marked};
+ghost use Rattle.solver.specs.Cells.{Lanes, Marked};
 ghost use Rattle.solver.specs.Trials.{lent, Joinable, joinedIn, bareAt};
 
 // Nothing where the relation stands, none elsewhere.
@@ -35,7 +34,7 @@ pub(crate) fn bare_row(homes: usize) -> [u64; 8]
 // The row of a set over its joins, which are given as bits: the least trial at each site.
 pub(crate) fn joined_row<'a>(
     board: &'a [u64; 256],
-    sizes: &'a [u64; 512],
+    sizes: &'a [u32; SETS],
     work: &[u64],
     set: usize,
     joins: usize,

@@ -6,27 +6,30 @@ use crate::cells::lesser;
 use crate::cells::place;
 use query::Bytes;
 use query::Charge;
+use query::amount;
 use query::price::join_price;
 use query::price::reads;
+use relations::SETS;
 use rules::combine;
 ghost use Prim.Native.Nat.{ℕ, _+_, _^_, _≤_, _<_};
 ghost use mathlib.Core.Path.{_≡_};
 ghost use lib.ListN.{getD};
+ghost use Rattle.relations.specs.Code.{mostSets};
 ghost use Rattle.solver.specs.Cells.{noneMark, Marked, Tried};
 ghost use Rattle.solver.specs.Trials.{lent, Priced, priceIn, Triable, trialOf};
 
 // The size of a set.
-pub(crate) fn size_of(sizes: &[u64; 512], set: usize) -> Bytes
-    requires { ⌜ set < 512 ⌝ }
+pub(crate) fn size_of(sizes: &[u32; SETS], set: usize) -> Bytes
+    requires { ⌜ set < mostSets ⌝ }
     ensures { λ r. ⌜ r .0 ≡ getD (now (sizes .entry)) set 0 ⌝ }
 {
-    Bytes(sizes[set])
+    Bytes(amount(sizes[set]))
 }
 
 // The price of joining two parts at site k.
 fn price_at<'a>(
     board: &'a [u64; 256],
-    sizes: &'a [u64; 512],
+    sizes: &'a [u32; SETS],
     part: usize,
     rest: usize,
     k: usize,
@@ -49,7 +52,7 @@ fn price_at<'a>(
 // The trial of joining two parts at site k.
 pub(crate) fn trial<'a>(
     board: &'a [u64; 256],
-    sizes: &'a [u64; 512],
+    sizes: &'a [u32; SETS],
     work: &[u64],
     part: usize,
     rest: usize,
@@ -69,7 +72,7 @@ pub(crate) fn trial<'a>(
 pub(crate) fn try_split<'a>(
     row: &mut [u64; 8],
     board: &'a [u64; 256],
-    sizes: &'a [u64; 512],
+    sizes: &'a [u32; SETS],
     work: &[u64],
     part: usize,
     rest: usize,

@@ -12,6 +12,7 @@ use crate::rows::joined_row;
 use crate::trials::size_of;
 use crate::trials::trial;
 use query::Bytes;
+use relations::SETS;
 use relations::bit;
 use relations::single;
 use relations::whole;
@@ -99,7 +100,7 @@ fn best_site(board: &[u64; 256], row: &[u64; 8], size: Bytes, t: usize) -> usize
 // The site where a set is joined for delivery at t.
 fn join_site<'a>(
     board: &'a [u64; 256],
-    sizes: &'a [u64; 512],
+    sizes: &'a [u32; SETS],
     work: &[u64],
     set: usize,
     t: usize,
@@ -114,7 +115,7 @@ fn join_site<'a>(
 // The join that is taken last for a set at site k.
 fn last_join<'a>(
     board: &'a [u64; 256],
-    sizes: &'a [u64; 512],
+    sizes: &'a [u32; SETS],
     work: &[u64],
     set: usize,
     k: usize,
@@ -143,7 +144,7 @@ fn last_join<'a>(
 // Writes the steps that deliver a set at t: the load for one relation, else those of its join; then a send if one is due.
 fn write_delivered<'a>(
     board: &'a [u64; 256],
-    sizes: &'a [u64; 512],
+    sizes: &'a [u32; SETS],
     work: &[u64],
     out: &mut [u8],
     at: usize,
@@ -169,7 +170,7 @@ fn write_delivered<'a>(
 // Writes the steps that join a set at k: the part with the join's first relation, the other part and the join.
 fn write_joined<'a>(
     board: &'a [u64; 256],
-    sizes: &'a [u64; 512],
+    sizes: &'a [u32; SETS],
     work: &[u64],
     out: &mut [u8],
     at: usize,
@@ -192,7 +193,7 @@ fn write_joined<'a>(
 // Writes the plan: its count of steps, then the steps.
 pub(crate) fn write_plan<'a>(
     board: &'a [u64; 256],
-    sizes: &'a [u64; 512],
+    sizes: &'a [u32; SETS],
     work: &[u64],
     out: &mut [u8],
     target: usize,

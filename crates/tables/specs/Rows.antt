@@ -4,6 +4,7 @@ use mathlib.Core.Bool.{Bool, true, false, _&&_}
 use mathlib.Core.List.{List, [], _∷_, _++_}
 use lib.ListN.{length, replicate}
 use lib.Dec.{eqb}
+use Rattle.relations.specs.Code.{mostSets}
 use Rattle.relations.specs.declared.Joins.{Joins}
 use Rattle.relations.specs.Sets.{all}
 use Rattle.relations.specs.Trees.{subqueries}
@@ -37,7 +38,7 @@ Q =
       sites = record { count = 3; may = filled 8 (1 ∷ 1 ∷ 1 ∷ []); fixed = filled 8 (2 ∷ 2 ∷ 2 ∷ []); rate = filled 8 (1 ∷ 1 ∷ 1 ∷ []) };
       relations = record { count = 2; home = filled 9 (0 ∷ 1 ∷ []); index = filled 9 [] };
       joins = record { count = 1; first = filled 8 (0 ∷ []); second = filled 8 (1 ∷ []) };
-      sizes = filled 512 (0 ∷ 10 ∷ 4 ∷ 3 ∷ []);
+      sizes = filled mostSets (0 ∷ 10 ∷ 4 ∷ 3 ∷ []);
       lines = everyLine 3 3 (record { flag = 1; fixed = 1; rate = 1 });
       target = 0;
     }
@@ -82,7 +83,7 @@ alone q =
       sites = q .sites;
       relations = record { count = 1; home = filled 9 (0 ∷ []); index = filled 9 [] };
       joins = record { count = 0; first = filled 8 []; second = filled 8 [] };
-      sizes = filled 512 (0 ∷ 10 ∷ []);
+      sizes = filled mostSets (0 ∷ 10 ∷ []);
       lines = q .lines;
       target = q .target;
     }

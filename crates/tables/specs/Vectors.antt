@@ -4,6 +4,7 @@ use Prim.Native.Nat.{ℕ, _+_}
 use mathlib.Core.Bool.{Bool, true, false, _&&_}
 use mathlib.Core.List.{List, [], _∷_}
 use lib.Dec.{eqb}
+use Rattle.relations.specs.Code.{mostSets}
 use Rattle.relations.specs.declared.Joins.{Joins}
 use Rattle.query.specs.declared.Query.{Query}
 use Rattle.query.specs.Cost.{some}
@@ -25,7 +26,7 @@ atOneSite n J sizes =
       sites = record { count = 1; may = filled 8 (1 ∷ []); fixed = filled 8 (2 ∷ []); rate = filled 8 (1 ∷ []) };
       relations = record { count = n; home = filled 9 []; index = filled 9 [] };
       joins = J;
-      sizes = filled 512 sizes;
+      sizes = filled mostSets sizes;
       lines = noLines;
       target = 0;
     }

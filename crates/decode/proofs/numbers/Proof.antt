@@ -24,6 +24,7 @@ numbers-spec =
     (λ c. search needs)
     (λ c. search needs)
     (λ c κs. search needs)
+    (λ c κs. search needs)
     (λ c. search needs)
     (λ c. omega (arith, ltb-true))
     (λ c. omega (arith, ltb-true))

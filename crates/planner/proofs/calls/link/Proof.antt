@@ -1,4 +1,4 @@
-use Rattle.planner.proofs.Linking.{linking}
+use Rattle.planner.proofs.Linking.{linking, flag-fair, fixed-fair, rate-fair}
 use borrow.Author.Needs.{needs}
 use Rattle.planner.proofs.calls.link.Statement.{statement}
 use Rattle.planner.proofs.calls.link.Tie as tie
@@ -12,5 +12,5 @@ link-spec =
     (λ c. (search (needs, linking), search needs))
     (λ c κs. search needs)
     (λ c. (search (needs, linking), search needs))
-    (λ c κs. search (needs, linking))
+    (λ c κs. (search (needs, linking), (search (needs, flag-fair), search (needs, fixed-fair), search (needs, rate-fair))))
     (λ c. (search (needs, linking), search (needs, linking))))

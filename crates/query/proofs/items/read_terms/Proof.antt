@@ -1,7 +1,7 @@
 -- `read_terms` reads a flag and two amounts, each from where the last one ended.
 use Rattle.query.specs.Decode.{terms}
 use Rattle.query.specs.Code.{termsOf}
-use Rattle.query.proofs.Reading.{chain-no, chain-last, chain-on}
+use Rattle.query.proofs.Reading.{chain-no, chain-last, chain-on, field-fits}
 use borrow.Author.Needs.{needs}
 use Rattle.query.proofs.items.read_terms.Statement.{statement}
 use Rattle.query.proofs.items.read_terms.Tie as tie
@@ -28,4 +28,7 @@ read-terms-spec =
     (λ c. search needs)
     (λ c κs. search needs)
     (λ c. search (needs, chain-no termsOf, chain-on termsOf))
+    (λ c. search (needs, field-fits))
+    (λ c. search (needs, field-fits))
+    (λ c. search (needs, field-fits))
     (λ c. search (needs, chain-last termsOf, chain-on termsOf)))

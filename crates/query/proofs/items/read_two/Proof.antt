@@ -1,7 +1,7 @@
 -- `read_two` reads two bytes, the second from where the first one ended.
 use Rattle.query.specs.Decode.{two}
 use Rattle.query.specs.Code.{twoOf}
-use Rattle.query.proofs.Reading.{chain-no, chain-last, chain-on}
+use Rattle.query.proofs.Reading.{chain-no, chain-last, chain-on, byte-fits}
 use borrow.Author.Needs.{needs}
 use Rattle.query.proofs.items.read_two.Statement.{statement}
 use Rattle.query.proofs.items.read_two.Tie as tie
@@ -22,4 +22,6 @@ read-two-spec =
     (λ c. search needs)
     (λ c κs. search needs)
     (λ c. search (needs, chain-no twoOf, chain-on twoOf))
+    (λ c. search (needs, byte-fits))
+    (λ c. search (needs, byte-fits))
     (λ c. search (needs, chain-last twoOf, chain-on twoOf)))

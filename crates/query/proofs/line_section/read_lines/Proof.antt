@@ -6,15 +6,17 @@ use borrow.Author.Needs.{needs}
 use Rattle.query.specs.Fields.{items}
 use Rattle.query.specs.Decode.{sender, linesSection}
 use Rattle.query.proofs.Reading.{count-cut}
+use Rattle.query.specs.Code.{linesOf}
 use Rattle.query.proofs.LineLaws.{pairs-fit, sender-on, of-lines}
 use Rattle.query.proofs.line_section.read_lines.Statement.{statement}
 use Rattle.query.proofs.line_section.read_lines.Tie as tie
 
 abbrev Inv-loop : tie.InvT-loop
-Inv-loop part s due lines₀ at₀ a₀ lines at a = (a ≤ s) × ((at ≤ 1 + 72 * a) × (linesSection s part ≡ items (sender s) (s - a) a lines (drop at part)))
+Inv-loop part s due flag₀ fixed₀ rate₀ at₀ a₀ flag fixed rate at a =
+    (a ≤ s) × ((at ≤ 1 + 72 * a) × (linesSection s part ≡ items (sender s) (s - a) a (linesOf flag fixed rate) (drop at part)))
 
 abbrev μ-loop : tie.MeasureT-loop
-μ-loop part s due lines₀ at₀ a₀ lines at a = s - a
+μ-loop part s due flag₀ fixed₀ rate₀ at₀ a₀ flag fixed rate at a = s - a
 
 pub read-lines-spec : {M : Type 1} → statement M
 unfolding linesSection
@@ -26,9 +28,9 @@ read-lines-spec =
     (λ c. search needs)
     (λ c. search (needs, pairs-fit))
     (λ c κs. search needs)
+    (λ c. search needs)
+    (λ c. search needs)
     (λ c κs. search needs)
-    (λ c. search needs)
-    (λ c. search needs)
     (λ c κs. search needs)
     (λ c. search (needs, count-cut))
     (λ c. search (needs, of-lines))
@@ -36,6 +38,7 @@ read-lines-spec =
     (λ c κs. search needs)
     (λ c. search needs)
     (λ c. search needs)
+    (λ c κs. search needs)
     (λ c. search (needs, of-lines))
     (λ c. search needs)
     (λ c. search needs)

@@ -5,15 +5,17 @@ use lib.ListN.{drop}
 use borrow.Author.Needs.{needs}
 use Rattle.query.specs.Fields.{items}
 use Rattle.query.specs.Decode.{line, sender}
+use Rattle.query.specs.Code.{linesOf}
 use Rattle.query.proofs.LineLaws.{line-on, of-sender}
 use Rattle.query.proofs.line_section.read_sender.Statement.{statement}
 use Rattle.query.proofs.line_section.read_sender.Tie as tie
 
 abbrev Inv-loop : tie.InvT-loop
-Inv-loop part s a lines₀ at₀ b₀ lines at b = (b ≤ s) × ((at ≤ 9 * b) × (sender s a lines₀ part ≡ items (line a) (s - b) b lines (drop at part)))
+Inv-loop part s a flags₀ amounts₀ rates₀ at₀ b₀ flags amounts rates at b =
+    (b ≤ s) × ((at ≤ 9 * b) × (sender s a (linesOf flags₀ amounts₀ rates₀) part ≡ items (line a) (s - b) b (linesOf flags amounts rates) (drop at part)))
 
 abbrev μ-loop : tie.MeasureT-loop
-μ-loop part s a lines₀ at₀ b₀ lines at b = s - b
+μ-loop part s a flags₀ amounts₀ rates₀ at₀ b₀ flags amounts rates at b = s - b
 
 pub read-sender-spec : {M : Type 1} → statement M
 read-sender-spec =
@@ -29,7 +31,6 @@ read-sender-spec =
     (λ c. search needs)
     (λ c κs. search needs)
     (λ c. search (needs, of-sender))
-    (λ c. search needs)
     (λ c. search needs)
     (λ c. search needs)
     (λ c. search needs)

@@ -1,6 +1,6 @@
 -- `price::is_indexed` meets its contract: each way through it is a case of the index rule, and the place that it looks at is below nine. Assumes nothing.
 use borrow.Author.Needs.{needs}
-use Rattle.query.proofs.Indexed.{place-fits, place-bytes, place-in, not-one, not-home, by-flag}
+use Rattle.query.proofs.Indexed.{place-fits, place-in, not-one, not-home, by-flag}
 use Rattle.query.proofs.price.is_indexed.Statement.{statement}
 use Rattle.query.proofs.price.is_indexed.Tie as tie
 
@@ -10,9 +10,8 @@ is-indexed-spec =
     (tie.spec
     (λ c. search (needs, not-one))
     (λ c. place-fits _)
-    (λ c. place-bytes _)
     (λ c. search (needs, place-in))
+    (λ c κs. search needs)
     (λ c. search (needs, not-home))
-    (λ c. place-bytes _)
     (λ c. search (needs, place-in))
     (λ c. search (needs, by-flag)))

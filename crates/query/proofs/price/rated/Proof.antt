@@ -1,5 +1,4 @@
 -- `price::rated` meets its contract: both factors have at most 32 bits, so the short product is the product, and it fits. Assumes nothing.
-use borrow.Author.Needs.{needs}
 use Rattle.query.proofs.Prices.{short-fits, short-is}
 use Rattle.query.proofs.price.rated.Statement.{statement}
 use Rattle.query.proofs.price.rated.Tie as tie

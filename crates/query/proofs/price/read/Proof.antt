@@ -1,5 +1,4 @@
 -- `price::read` meets its contract: a mask takes all of a size or nothing. Assumes nothing.
-use borrow.Author.Needs.{needs}
 use Rattle.query.proofs.Prices.{masked}
 use Rattle.query.proofs.price.read.Statement.{statement}
 use Rattle.query.proofs.price.read.Tie as tie

@@ -43,7 +43,5 @@ read-joins-spec =
     (λ c. search needs)
     (λ c. search needs)
     (λ c. search needs)
-    (λ c. search needs)
-    (λ c. search needs)
     (λ c. (search needs, (search needs, (search needs, search (needs, two-stored withJoin)))))
     (λ c. search (needs, of-section)))

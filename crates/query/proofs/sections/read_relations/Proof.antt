@@ -42,7 +42,5 @@ read-relations-spec =
     (λ c. search needs)
     (λ c. search needs)
     (λ c. search needs)
-    (λ c. search needs)
-    (λ c. search needs)
     (λ c. (search needs, (search needs, (search needs, search (needs, two-stored withRelation)))))
     (λ c. search (needs, of-section)))

@@ -45,6 +45,5 @@ read-sites-spec =
     (λ c. search needs)
     (λ c. search needs)
     (λ c. search needs)
-    (λ c. search needs)
     (λ c. (search needs, (search needs, (search needs, search (needs, terms-stored withSite)))))
     (λ c. search (needs, of-section)))

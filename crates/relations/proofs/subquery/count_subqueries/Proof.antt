@@ -2,6 +2,7 @@
 use Prim.Native.Nat.{_+_, _-_, _^_, _≤_}
 use mathlib.Core.Path.{_≡_}
 use borrow.Author.Needs.{needs}
+use Rattle.relations.specs.Code.{mostSets}
 use Rattle.relations.specs.Trees.{countBelow}
 use Rattle.relations.specs.Table.{Tabled}
 use Rattle.relations.proofs.Turns.{few-sets, subqueries-none, subqueries-more, subqueries-done}
@@ -10,7 +11,7 @@ use Rattle.relations.proofs.subquery.count_subqueries.Tie as tie
 
 abbrev Inv-loop : tie.InvT-loop
 Inv-loop joins table n₀ set₀ n set =
-    (set ≤ 2 ^ (joins .count + 1)) × ((2 ^ (joins .count + 1) ≤ 512) × ((n ≤ set) × ((n ≡ countBelow joins (joins .count + 1) set) × Tabled joins table)))
+    (set ≤ 2 ^ (joins .count + 1)) × ((2 ^ (joins .count + 1) ≤ mostSets) × ((n ≤ set) × ((n ≡ countBelow joins (joins .count + 1) set) × Tabled joins table)))
 
 abbrev μ-loop : tie.MeasureT-loop
 μ-loop joins table n₀ set₀ n set = 2 ^ (joins .count + 1) - set

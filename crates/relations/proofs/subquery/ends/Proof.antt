@@ -23,9 +23,9 @@ ends-spec =
     μ-loop
     (λ c. (search needs, listed-none _ _ _ refl))
     (λ c. search needs)
+    (λ c κs. search needs)
     (λ c. search needs)
-    (λ c. search needs)
-    (λ c. search needs)
+    (λ c κs. search needs)
     (λ c κs. search (needs, first-low))
     (λ c κs. search (needs, second-low))
     (λ c. search needs)

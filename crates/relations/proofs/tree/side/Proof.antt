@@ -1,7 +1,7 @@
 -- The join's first relation grows within all relations, skipping the join.
 -- Both ends' ranges are listed at the call, so that growth from the other end is refused at the return, where it is wrong, and not here.
 use Rattle.relations.specs.Trees.{side, part}
-use Rattle.relations.proofs.Drawing.{single-growable, first-low, second-low}
+use Rattle.relations.proofs.Drawing.{single-growable, first-drawn, second-drawn, first-low, second-low}
 use borrow.Author.Needs.{needs}
 use Rattle.relations.proofs.tree.side.Statement.{statement}
 use Rattle.relations.proofs.tree.side.Tie as tie
@@ -14,8 +14,7 @@ side-spec =
     (λ c. search needs)
     (λ c κs. search needs)
     (λ c. search needs)
-    (λ c. search needs)
+    (λ c κs. search needs)
     (λ c κs. search (needs, first-low, second-low))
-    (λ c κs. let d = c .before .before .before .pre .0 in
-    search (needs, single-growable, d .first-in, d .second-in))
+    (λ c κs. search (needs, single-growable, first-drawn, second-drawn))
     (λ c. cc))

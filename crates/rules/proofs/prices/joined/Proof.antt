@@ -1,7 +1,7 @@
 -- `prices::joined` meets its contract: the reads and the price are the query's, and the sums fit by the limits asked. Assumes nothing.
 use borrow.Author.Needs.{needs}
 use Rattle.rules.proofs.Pricing.{sum-fits, joined-is}
-use Rattle.relations.proofs.Turns.{below-512}
+use Rattle.relations.proofs.Turns.{below-sets}
 use Rattle.rules.proofs.prices.joined.Statement.{statement}
 use Rattle.rules.proofs.prices.joined.Tie as tie
 
@@ -11,7 +11,7 @@ joined-spec =
     (tie.spec
     (λ c κs. search needs)
     (λ c κs. search needs)
-    (λ c κs. (search needs, search (needs, below-512)))
+    (λ c κs. (search needs, search (needs, below-sets)))
     (λ c κs. search needs)
     (λ c. search (needs, sum-fits))
     (λ c. search needs)

@@ -18,7 +18,7 @@ load-spec =
     (λ c. search (needs, load-twice))
     (λ c κs. search needs)
     (λ c. search needs)
-    (λ c. search needs)
+    (λ c κs. search needs)
     (λ c. search (needs, loaded-fits))
     (λ c κs. search (needs, depth-free))
     (λ c κs. search needs)

@@ -2,10 +2,11 @@
 use Prim.Native.Nat.{ℕ, _+_, _-_, _*_, _^_, _≤_, _<_}
 use native.Mathlib.Nat.{le-antisymm}
 use native.Mathlib.Omega.{arith}
-use mathlib.Core.Path.{_≡_, refl, ap, _∙_}
+use mathlib.Core.Path.{_≡_, ap, _∙_}
 use mathlib.Core.List.{List}
 use lib.Count.{ones}
 use borrow.Author.Needs.{needs}
+use Rattle.relations.specs.Code.{mostSets}
 use Rattle.query.specs.declared.Query.{Query}
 use Rattle.query.specs.Query.{relationsOf}
 use Rattle.rules.proofs.Combinations.{plus-combines}
@@ -24,7 +25,7 @@ Reached board sizes table old end work tried set =
 
 abbrev Inv-loop : tie.InvT-loop
 Inv-loop board sizes table work₀ end tried₀ set₀ work tried set =
-    (set ≤ end) × ((0 < set) × ((end ≤ 512) × Reached board sizes table work₀ end work tried set))
+    (set ≤ end) × ((0 < set) × ((end ≤ mostSets) × Reached board sizes table work₀ end work tried set))
 
 abbrev μ-loop : tie.MeasureT-loop
 μ-loop board sizes table work₀ end tried₀ set₀ work tried set = end - set
@@ -67,7 +68,7 @@ abbrev tested : Done → Tested
 tested c = joined c .before .before .before
 
 -- The relations of a subquery, and the joins counted so far.
-counted : (c : Done) → (let t = turn (tested c) in (1 ≤ ones (t .before .loop .set)) × (ones (t .before .loop .set) ≤ 9) × (t .before .loop .tried ≤ 4096))
+counted : (c : Done) → (let t = turn (tested c) in (1 ≤ ones (t .before .loop .set)) × (ones (t .before .loop .set) ≤ 9) × (t .before .loop .tried ≤ 8 * mostSets))
 counted c =
     let i = tested c in
     let t = turn i in

@@ -2,7 +2,7 @@
 use Prim.Native.Nat.{_-_, _≤_}
 use borrow.Author.Needs.{needs}
 use Rattle.solver.specs.Laying.{RelationsLaid}
-use Rattle.solver.proofs.LaidSteps.{relations-none, relations-long, relations-more, relations-all}
+use Rattle.solver.proofs.LaidSteps.{home-within, relations-none, relations-long, relations-more, relations-all}
 use Rattle.solver.proofs.laying.lay_relations.Statement.{statement}
 use Rattle.solver.proofs.laying.lay_relations.Tie as tie
 
@@ -20,9 +20,8 @@ lay-relations-spec =
     μ-loop
     (λ c. (search needs, relations-none _ _ _))
     (λ c. search needs)
-    (λ c. search needs)
-    (λ c κs. search (needs, c .before .before .before .pre .1))
-    (λ c. search needs)
+    (λ c κs. search needs)
+    (λ c κs. let l = c .before .before .before in home-within (l .before .args .home .now) _ (l .loop .r) _ (l .before .pre .1) (c .wide .ensures .0) (search needs))
     (λ c. search needs)
     (λ c. search needs)
     (λ c. search needs)
@@ -33,6 +32,6 @@ lay-relations-spec =
     (λ c κs. (search (needs, relations-long), search needs))
     (λ c. search needs)
     (λ c. search needs)
-    (λ c. let s = c .before .before in let o = s .before .before .before in let l = o .before .before .before in
-    (search needs, relations-more _ _ _ _ _ _ _ _ _ (l .loop .inv .1) (search needs) (l .before .pre .0 .0) (o .single .ensures) (s .spared-at .ensures) (c .before .counted-row .ensures) (c .lay .ensures)))
+    (λ c. let s = c .before .before in let o = s .before .before .before in let w = o .before in let l = w .before .before .before in
+    (search needs, relations-more _ _ _ _ _ _ _ _ _ _ (l .loop .inv .1) (search needs) (l .before .pre .0 .0) (w .wide .ensures .0) (o .single .ensures) (s .spared-at .ensures) (c .before .counted-row .ensures) (c .lay .ensures)))
     (λ c. search (needs, relations-all)))

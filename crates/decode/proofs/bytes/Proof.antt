@@ -1,11 +1,11 @@
--- `places` is safe and ends: it stops at the end of the list at the latest.
+-- `bytes` is safe and ends: it stops at the end of the list at the latest.
 use Prim.Native.Nat.{_≤_, _-_}
 use native.Mathlib.Omega.{arith}
 use lib.ListN.{length}
 use borrow.Author.Tests.{ltb-true}
 use borrow.Author.Needs.{needs}
-use Rattle.decode.proofs.places.Statement.{statement}
-use Rattle.decode.proofs.places.Tie as tie
+use Rattle.decode.proofs.bytes.Statement.{statement}
+use Rattle.decode.proofs.bytes.Tie as tie
 
 abbrev Inv-loop : tie.InvT-loop
 Inv-loop word list count i₀ i = i ≤ length list
@@ -13,8 +13,8 @@ Inv-loop word list count i₀ i = i ≤ length list
 abbrev μ-loop : tie.MeasureT-loop
 μ-loop word list count i₀ i = length list - i
 
-pub places-spec : {M : Type 1} → statement M
-places-spec =
+pub bytes-spec : {M : Type 1} → statement M
+bytes-spec =
     tie.close
     (tie.spec
     Inv-loop
@@ -22,7 +22,7 @@ places-spec =
     (λ c κs. search needs)
     (λ c. search needs)
     (λ c. search needs)
-    (λ c. search needs)
+    (λ c κs. search needs)
     (λ c κs. search needs)
     (λ c. search needs)
     (λ c. omega (arith, ltb-true))
