@@ -12,12 +12,12 @@ use Rattle.query.specs.declared.Charge.{Charge}
 use Rattle.query.specs.Cost.{Cost, none, some}
 use Rattle.query.specs.Query.{Valid}
 use Rattle.rules.specs.Plans.{longestPlan}
-use Rattle.solver.specs.declared.solving.Solved.{Solved}
-use Rattle.solver.specs.declared.solving.Solved.the-variants.{Found, NoRoute}
+use Rattle.solver.specs.declared.Solution.{Solution}
+use Rattle.solver.specs.declared.Solution.the-variants.{Found, NoRoute}
 use Rattle.tables.specs.Tables.{cheapest, trials}
 use Rattle.tables.specs.Plan.{written}
 use Rattle.tables.specs.Work.{cellsNeeded}
-use Rattle.solver.specs.Solved.{solvedAs, planAfter}
+use Rattle.solver.specs.Solution.{solutionOf, planAfter}
 use Rattle.tables.proofs.Upper.{written-most}
 use Rattle.rules.proofs.Combinations.{plus-combines}
 use Rattle.planner.specs.declared.Planner.{Planner}
@@ -42,31 +42,31 @@ not-refused p new old e h f =
 
 -- The solver's answer by what the query costs.
 module _ (q : Query) (c : Charge) (l t : ℕ) where
-  is-found : (x : Cost) → solvedAs q x ≡ Found c l t → x ≡ some (c .0)
+  is-found : (x : Cost) → solutionOf q x ≡ Found c l t → x ≡ some (c .0)
   is-found none e = absurd (let z : _≡_ {A = ℕ} 0 1 = cc in omega arith)
   is-found (some d) e = cc
 
-  found-length : (x : Cost) → solvedAs q x ≡ Found c l t → l ≡ length (written _+_ q)
+  found-length : (x : Cost) → solutionOf q x ≡ Found c l t → l ≡ length (written _+_ q)
   found-length none e = absurd (let z : _≡_ {A = ℕ} 0 1 = cc in omega arith)
   found-length (some d) e = cc
 
-  found-trials : (x : Cost) → solvedAs q x ≡ Found c l t → t ≡ trials q
+  found-trials : (x : Cost) → solutionOf q x ≡ Found c l t → t ≡ trials q
   found-trials none e = absurd (let z : _≡_ {A = ℕ} 0 1 = cc in omega arith)
   found-trials (some d) e = cc
 
-is-none : (q : Query) (t : ℕ) (x : Cost) → solvedAs q x ≡ NoRoute t → x ≡ none
+is-none : (q : Query) (t : ℕ) (x : Cost) → solutionOf q x ≡ NoRoute t → x ≡ none
 is-none q t none e = refl
 is-none q t (some d) e = absurd (let z : _≡_ {A = ℕ} 0 1 = cc in omega arith)
 
-none-trials : (q : Query) (t : ℕ) (x : Cost) → solvedAs q x ≡ NoRoute t → t ≡ trials q
+none-trials : (q : Query) (t : ℕ) (x : Cost) → solutionOf q x ≡ NoRoute t → t ≡ trials q
 none-trials q t none e = cc
 none-trials q t (some d) e = absurd (let z : _≡_ {A = ℕ} 0 1 = cc in omega arith)
 
-module _ (p r : Planner) (s : Solved) (n : ℕ) (loaded : p .loaded ≡ true) (enough : cellsNeeded (p .query) ≤ n) (answer : s ≡ solvedAs (p .query) (cheapest _+_ (p .query)))
+module _ (p r : Planner) (s : Solution) (n : ℕ) (loaded : p .loaded ≡ true) (enough : cellsNeeded (p .query) ≤ n) (answer : s ≡ solutionOf (p .query) (cheapest _+_ (p .query)))
     (r-loaded : r .loaded ≡ p .loaded) (r-query : r .query ≡ p .query) where
   -- The planner after a plan was found: it is kept, with its cost.
   module _ (c : Charge) (l t : ℕ) (is : s ≡ Found c l t) where
-    same : solvedAs (p .query) (cheapest _+_ (p .query)) ≡ Found c l t
+    same : solutionOf (p .query) (cheapest _+_ (p .query)) ≡ Found c l t
     same = sym answer ∙ is
 
     pub solve-found :
@@ -97,7 +97,7 @@ module _ (p r : Planner) (s : Solved) (n : ℕ) (loaded : p .loaded ≡ true) (e
       rw (r-loaded, loaded, r-query, k, le-ltb n (cellsNeeded (p .query)) enough, e, none-trials (p .query) t (cheapest _+_ (p .query)) (sym answer ∙ is))
 
 -- A plan that was found is no longer than a plan may be.
-pub found-short : (q : Query) → Valid q → (s : Solved) → s ≡ solvedAs q (cheapest _+_ q) → (c : Charge) (l t : ℕ) → s ≡ Found c l t → l ≤ longestPlan
+pub found-short : (q : Query) → Valid q → (s : Solution) → s ≡ solutionOf q (cheapest _+_ q) → (c : Charge) (l t : ℕ) → s ≡ Found c l t → l ≤ longestPlan
 found-short q valid s answer c l t is =
     let same = sym answer ∙ is in
     rw (found-length q c l t (cheapest _+_ q) same) (written-most _+_ plus-combines q valid (c .0) (is-found q c l t (cheapest _+_ q) same))

@@ -16,7 +16,7 @@ use query::MOST_RATE;
 use query::Outcome;
 use query::Query;
 use rules::Checked;
-use solver::Solved;
+use solver::Solution;
 ghost use Prim.Native.Nat.{_≤_, _<_};
 ghost use mathlib.Core.Path.{_≡_};
 ghost use mathlib.Core.Bool.{false};
@@ -161,7 +161,7 @@ pub fn solve(p: Planner, cells: &mut [u64]) -> AfterSolve
     let mut plan = [0u8; LONGEST_PLAN];
     let s = solver::solve(p.query, cells, &mut plan);
     match s {
-        Solved::Found {
+        Solution::Found {
             cost,
             length,
             trials,
@@ -175,7 +175,7 @@ pub fn solve(p: Planner, cells: &mut [u64]) -> AfterSolve
                 ..p
             },
         },
-        Solved::NoRoute { trials } => AfterSolve {
+        Solution::NoRoute { trials } => AfterSolve {
             answer: SolveAnswer::NoRoute { trials },
             planner: Planner { kept: false, ..p },
         },

@@ -21,16 +21,17 @@ use Rattle.tables.specs.Plan.{written}
 use Rattle.tables.specs.Work.{cellsNeeded}
 use Rattle.tables.specs.Theorems.{mostCost}
 use Rattle.tables.proofs.Most.{delivered-most}
-use Rattle.solver.specs.declared.solving.Solved.{Solved}
-use Rattle.solver.specs.declared.solving.Solved.the-variants.{Found, NoRoute}
-use Rattle.solver.specs.Cells.{place, noneMark, mark}
-use Rattle.solver.specs.Board.{BoardOf}
-use Rattle.solver.specs.Trials.{lent}
-use Rattle.solver.specs.Filling.{LaidOut, Filled, Fillable, FilledFrom}
-use Rattle.solver.specs.Solved.{solvedAs, planAfter}
-use Rattle.solver.proofs.LaidBoard.{tree-here, drawn-here}
-use Rattle.solver.proofs.Places.{set-low, place-low}
-use Rattle.solver.proofs.SetsFilled.{joins-below}
+use Rattle.solver.specs.declared.Solution.{Solution}
+use Rattle.solver.specs.declared.Solution.the-variants.{Found, NoRoute}
+use Rattle.board.specs.Figures.{noneMark, mark}
+use Rattle.cells.specs.Cells.{place}
+use Rattle.board.specs.Board.{BoardOf}
+use Rattle.cells.specs.Trials.{lent}
+use Rattle.cells.specs.Filling.{LaidOut, Filled, Fillable, FilledFrom}
+use Rattle.solver.specs.Solution.{solutionOf, planAfter}
+use Rattle.board.proofs.LaidBoard.{tree-here, drawn-here}
+use Rattle.cells.proofs.Places.{set-low, place-low}
+use Rattle.cells.proofs.SetsFilled.{joins-below}
 
 -- A cost from its figure.
 marked-number : (c : Cost) (x : ℕ) → x ≡ mark c → x < noneMark → c ≡ some x
@@ -82,9 +83,9 @@ fillable-here q b work table v board table-is room =
     }
 
 -- An answer, and what becomes of the two lent areas.
-abbrev Answered : Query → (old work : List ℕ) → Solved → (plan left : List ℕ) → Type 0
+abbrev Answered : Query → (old work : List ℕ) → Solution → (plan left : List ℕ) → Type 0
 Answered q old work answer plan left =
-    (answer ≡ solvedAs q (cheapest _+_ q)) ×
+    (answer ≡ solutionOf q (cheapest _+_ q)) ×
     ((left ≡ planAfter (cheapest _+_ q) (written _+_ q) plan) × ((length work ≡ length old) × (drop (cellsNeeded q) work ≡ drop (cellsNeeded q) old)))
 
 -- What filling leaves: the trials are few, and the answer follows from what the query costs.

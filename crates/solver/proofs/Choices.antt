@@ -22,14 +22,15 @@ use Rattle.query.specs.declared.Query.{Query}
 use Rattle.query.specs.Choice.{pick}
 use Rattle.query.specs.Query.{relationsOf, sitesOf}
 use Rattle.rules.specs.Combine.{Combines}
-use Rattle.solver.specs.declared.cells.Choice.{Choice}
-use Rattle.solver.specs.Cells.{noneMark, placeOf, ChoiceOf, betterOf, Lanes, Marked}
-use Rattle.solver.specs.Board.{endsAt, sideAt, joinsAt, sitesAt}
-use Rattle.solver.specs.Trials.{Lent, sizeIn, trialOf, Triable, joinTrial, Joinable, joinedIn, carriageIn, Carriable, siteTrial, siteIn}
-use Rattle.solver.specs.Filling.{Filled}
+use Rattle.board.specs.declared.figures.Choice.{Choice}
+use Rattle.board.specs.Figures.{noneMark, placeOf, ChoiceOf, betterOf, Lanes, Marked}
+use Rattle.board.specs.Board.{endsAt, sideAt, joinsAt, sitesAt}
+use Rattle.cells.specs.Trials.{Lent, sizeIn, trialOf, Triable, joinTrial, Joinable, joinedIn, carriageIn, Carriable, siteTrial, siteIn}
+use Rattle.cells.specs.Filling.{Filled}
 use Rattle.solver.specs.Writing.{joinsWithin, siteBy, joinBy, Known}
-use Rattle.solver.proofs.Figures.{choice-more, choice-same, place-same}
-use Rattle.solver.proofs.Columns as columns
+use Rattle.board.proofs.LeastFigures.{choice-more, choice-same, place-same}
+use Rattle.cells.proofs.Columns as columns
+use Rattle.solver.proofs.Chosen.{within-is}
 
 -- The joins in a set as bits, one more each turn: below 2^m after m of them.
 pub bit-is : (inside : Bool) (e r : ℕ) → inside ≡ true → r ≡ 2 ^ e → e < 8 → (r ≡ pick inside (2 ^ e) 0) × (r < 256)
@@ -128,7 +129,7 @@ module _ (combine : ℕ → ℕ → ℕ) (C : Combines combine) (q : Query) (l :
 
   pub joinable : (joins : ℕ) → joins ≡ within l S → Joinable l joins S
   joinable joins is =
-      rw (is, columns.within-is combine C q l (k .laid) S (k .subquery)) (columns.startable combine C q l (k .laid) S (k .subquery) filled-here .joinable)
+      rw (is, within-is combine C q l (k .laid) S (k .subquery)) (columns.startable combine C q l (k .laid) S (k .subquery) filled-here .joinable)
 
   pub triable : (joins e d side i : ℕ) → joins ≡ within l S → e < 8 → i < sitesOf q → d ≡ bit joins e → d ≡ 1 → side ≡ sideAt (l .board) e →
       Triable l (bitAnd S side) (S - bitAnd S side) i

@@ -11,8 +11,8 @@ use Rattle.query.specs.declared.Query.{Query}
 use Rattle.query.proofs.Indexed.{one-of-nine}
 use Rattle.rules.specs.Combine.{Combines}
 use Rattle.tables.specs.Plan.{sendIfDue, writtenDelivered, writtenJoined, stepBytes}
-use Rattle.solver.specs.Board.{sideAt, homesAt}
-use Rattle.solver.specs.Trials.{Lent}
+use Rattle.board.specs.Board.{sideAt, homesAt}
+use Rattle.cells.specs.Trials.{Lent}
 use Rattle.solver.specs.Writing.{Wrote, siteBy, joinBy, ToDeliver, ToJoin}
 use Rattle.solver.proofs.Stores.{wrote-then, room-first, room-next}
 use Rattle.solver.proofs.Choices.{known-low}

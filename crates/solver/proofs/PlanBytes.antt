@@ -19,11 +19,12 @@ use Rattle.tables.specs.Plan.{sendIfDue, bestSite, bestJoin, joinedSteps, deliv
 use Rattle.tables.proofs.Tables.{ones-some, ByJoin, delivered-found, joined-found}
 use Rattle.tables.proofs.Written.{written-is}
 use Rattle.tables.proofs.StepBytes.{step-bytes-append}
-use Rattle.solver.specs.Board.{sideAt, homesAt}
-use Rattle.solver.specs.Trials.{Lent}
+use Rattle.board.specs.Board.{sideAt, homesAt}
+use Rattle.cells.specs.Trials.{Lent}
 use Rattle.solver.specs.Writing.{Wrote, siteBy, joinBy, Known, ToDeliver, ToJoin}
 use Rattle.solver.proofs.Choices.{filled-here}
-use Rattle.solver.proofs.Columns.{part-is, site-is, join-is}
+use Rattle.cells.proofs.Columns.{part-is}
+use Rattle.solver.proofs.Chosen.{site-is, join-is}
 use Rattle.solver.proofs.Stores.{wrote-none}
 
 -- A send if one is due.

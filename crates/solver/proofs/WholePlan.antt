@@ -17,9 +17,9 @@ use Rattle.tables.specs.Tables.{cheapest}
 use Rattle.tables.specs.Plan.{writtenDelivered, writtenSteps, stepBytes, written}
 use Rattle.tables.proofs.Upper.{written-most}
 use Rattle.tables.proofs.StepBytes.{step-bytes-long}
-use Rattle.solver.specs.Board.{joinsAt}
-use Rattle.solver.specs.Trials.{Lent}
-use Rattle.solver.specs.Filling.{LaidOut, Filled}
+use Rattle.board.specs.Board.{joinsAt}
+use Rattle.cells.specs.Trials.{Lent}
+use Rattle.cells.specs.Filling.{LaidOut, Filled}
 use Rattle.solver.specs.Writing.{Wrote, ToDeliver}
 use Rattle.solver.proofs.Stores.{plan-stored}
 

@@ -1,15 +1,59 @@
-// Solving: the cells of the two tables, filled set by set, and the plan read off them.
-// In reading order: cells (what a cell is), trials (what a trial is), rows, delivering and filling (how the cells come about), writing (how a
-// plan is read off them). board and laying are the query as the loops take it.
-mod board;
-mod cells;
-mod delivering;
-mod filling;
-mod laying;
-mod rows;
-mod solving;
-mod trials;
+// Solving a query: the cells are filled over its board, and the cheapest plan, its cost and the trials are read off them, or no route.
 mod writing;
 
-pub use solving::Solved;
-pub use solving::solve;
+use crate::writing::write_plan;
+use board::NONE;
+use board::laid_out;
+use cells::fill;
+use cells::place;
+use query::Charge;
+use query::Query;
+use relations::join_table;
+use relations::whole;
+ghost use Prim.Native.Nat.{_+_, _≤_};
+ghost use mathlib.Core.Path.{_≡_};
+ghost use lib.ListN.{length, drop};
+ghost use Rattle.query.specs.Query.{Valid};
+ghost use Rattle.rules.specs.Plans.{longestPlan};
+ghost use Rattle.tables.specs.Tables.{cheapest};
+ghost use Rattle.tables.specs.Plan.{written};
+ghost use Rattle.tables.specs.Work.{cellsNeeded};
+ghost use Rattle.solver.specs.Solution.{solutionOf, planAfter};
+
+// What solving a query gives: the cost of the cheapest plan, how many bytes it has and the trials; or none, with the trials.
+pub enum Solution {
+    Found {
+        cost: Charge,
+        length: usize,
+        trials: u64,
+    },
+    NoRoute {
+        trials: u64,
+    },
+}
+
+// Solves a query over a lent work area, and writes the plan at the front of the other lent area.
+pub fn solve(q: Query, work: &mut [u64], plan: &mut [u8]) -> Solution
+    requires { ⌜ Valid q × ((cellsNeeded q ≤ length (now work)) × (longestPlan ≤ length (now plan))) ⌝ }
+    ensures answer { λ r. ⌜ r ≡ solutionOf q (cheapest _+_ q) ⌝ }
+    ensures written { λ _. ⌜ now (plan .exit) ≡ planAfter (cheapest _+_ q) (written _+_ q) (now (plan .entry)) ⌝ }
+    ensures cells { λ _.
+        ⌜ (length (now (work .exit)) ≡ length (now (work .entry))) × (drop (cellsNeeded q) (now (work .exit)) ≡ drop (cellsNeeded q) (now (work .entry))) ⌝ }
+{
+    let board = laid_out(q);
+    let table = join_table(q.joins);
+    let joins = fill(&board, &q.sizes, &table, &mut *work);
+    let sites = q.sites.count as u64;
+    let trials = sites * joins;
+    let at = place(whole(q.joins.count + 1), q.target);
+    let cell = work[at];
+    if cell < NONE {
+        let length = write_plan(&board, &q.sizes, &*work, &mut *plan, q.target);
+        return Solution::Found {
+            cost: Charge(cell),
+            length,
+            trials,
+        };
+    }
+    Solution::NoRoute { trials }
+}

@@ -1,16 +1,16 @@
 // How a plan is read off the cells, from Delivered(all, query site) down: delivered and joined call each other, over fewer relations each time.
-use crate::board::ends_at;
-use crate::board::homes_at;
-use crate::board::joins_of;
-use crate::board::side_at;
-use crate::board::sites_of;
-use crate::cells::Choice;
-use crate::cells::NONE;
-use crate::cells::better;
-use crate::delivering::carriage;
-use crate::rows::joined_row;
-use crate::trials::size_of;
-use crate::trials::trial;
+use board::Choice;
+use board::NONE;
+use board::better;
+use board::ends_at;
+use board::homes_at;
+use board::joins_of;
+use board::side_at;
+use board::sites_of;
+use cells::carriage;
+use cells::joined_row;
+use cells::size_of;
+use cells::trial;
 use query::Bytes;
 use relations::SETS;
 use relations::bit;
@@ -28,10 +28,10 @@ ghost use Rattle.query.specs.Cost.{some};
 ghost use Rattle.rules.specs.Plans.{longestPlan};
 ghost use Rattle.tables.specs.Tables.{cheapest};
 ghost use Rattle.tables.specs.Plan.{sendIfDue, writtenDelivered, writtenJoined, stepBytes, written};
-ghost use Rattle.solver.specs.Cells.{Marked};
-ghost use Rattle.solver.specs.Board.{joinsAt};
-ghost use Rattle.solver.specs.Trials.{lent, Carriable, siteIn};
-ghost use Rattle.solver.specs.Filling.{LaidOut, Filled};
+ghost use Rattle.board.specs.Figures.{Marked};
+ghost use Rattle.board.specs.Board.{joinsAt};
+ghost use Rattle.cells.specs.Trials.{lent, Carriable, siteIn};
+ghost use Rattle.cells.specs.Filling.{LaidOut, Filled};
 ghost use Rattle.solver.specs.Writing.{joinsWithin, Wrote, ToDeliver, ToJoin, siteBy, joinBy};
 
 // Writes a step: its kind and its argument.

@@ -15,8 +15,8 @@ use Rattle.solver.proofs.writing.+write_delivered+write_joined.Lts-writ
 use Rattle.solver.proofs.writing.write_joined.Reads as write-joined
 use Rattle.solver.proofs.writing.write_joined.Kinds as write-joined-kinds
 use Rattle.solver.proofs.writing.+write_delivered+write_joined.Lts-write_joined as write-joined-lts
-use Rattle.solver.proofs.board.homes_at.Reads as homes-at-reads
-use Rattle.solver.proofs.board.side_at.Reads as side-at-reads
+use Rattle.board.proofs.homes_at.Reads as homes-at-reads
+use Rattle.board.proofs.side_at.Reads as side-at-reads
 use Rattle.solver.proofs.writing.join_site.Reads as join-site-reads
 use Rattle.solver.proofs.writing.last_join.Reads as last-join-reads
 use Rattle.solver.proofs.writing.put.Reads as put-reads

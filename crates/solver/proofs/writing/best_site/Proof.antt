@@ -2,9 +2,9 @@
 use Prim.Native.Nat.{ℕ, _-_, _≤_}
 use lib.ListN.{getD}
 use borrow.Author.Needs.{needs}
-use Rattle.solver.specs.Cells.{ChoiceOf}
-use Rattle.solver.specs.Trials.{siteTrial}
-use Rattle.solver.proofs.Figures.{choice-none}
+use Rattle.board.specs.Figures.{ChoiceOf}
+use Rattle.cells.specs.Trials.{siteTrial}
+use Rattle.board.proofs.LeastFigures.{choice-none}
 use Rattle.solver.proofs.Choices.{site-fits, site-more, choice-done}
 use Rattle.solver.proofs.writing.best_site.Statement.{statement}
 use Rattle.solver.proofs.writing.best_site.Tie as tie

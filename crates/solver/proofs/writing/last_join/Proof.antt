@@ -3,9 +3,9 @@ use Prim.Native.Nat.{_+_, _-_, _≤_}
 use lib.Bits.{and-le-l}
 use borrow.Author.Needs.{needs}
 use Rattle.rules.proofs.Combinations.{plus-combines}
-use Rattle.solver.specs.Cells.{ChoiceOf}
-use Rattle.solver.specs.Trials.{lent, joinTrial}
-use Rattle.solver.proofs.Figures.{choice-none}
+use Rattle.board.specs.Figures.{ChoiceOf}
+use Rattle.cells.specs.Trials.{lent, joinTrial}
+use Rattle.board.proofs.LeastFigures.{choice-none}
 use Rattle.solver.proofs.Choices.{few-joins, triable, join-better, join-worse, join-by}
 use Rattle.solver.proofs.writing.last_join.Statement.{statement}
 use Rattle.solver.proofs.writing.last_join.Tie as tie

@@ -1,0 +1,13 @@
+pub mod Places
+pub mod Turns
+pub mod Trying
+pub mod CellsStored
+pub mod Joins
+pub mod Marks
+pub mod Started
+pub mod Boards
+pub mod Parts
+pub mod JoinTrials
+pub mod Columns
+pub mod SetsFilled
+pub mod SetTurns

@@ -1,8 +1,0 @@
--- `cells::better` meets its contract: each arm is a case of the definition. Assumes nothing.
-use borrow.Author.Needs.{needs}
-use Rattle.solver.proofs.Figures.{better-new, better-kept}
-use Rattle.solver.proofs.cells.better.Statement.{statement}
-use Rattle.solver.proofs.cells.better.Tie as tie
-
-pub better-spec : {M : Type 1} → statement M
-better-spec = tie.close (tie.spec (λ c. search (needs, better-new)) (λ c. search (needs, better-kept)))
