@@ -3,12 +3,12 @@
 ghost use Prim.Native.Nat.{_<_};
 ghost use lib.ListN.{length};
 ghost use Rattle.records.specs.Records.{Onward};
+use decoder::Outcome;
+use decoder::decode;
 use libc::STDIN_FILENO;
 use libc::STDOUT_FILENO;
 use query::Charge;
-use query::Outcome;
 use query::Query;
-use query::decode;
 use records::record_at;
 use rules::Checked;
 use rules::check;

@@ -8,10 +8,10 @@ use lib.ListN.{length}
 use denote.Ref.{now}
 use Rattle.query.specs.declared.Query.{Query}
 use Rattle.query.specs.Choice.{pick}
-use Rattle.query.specs.Fields.{Read, value}
-use Rattle.query.specs.Fields as fields
-use Rattle.query.specs.Decode.{decode}
 use Rattle.query.specs.Query.{sitesOf}
+use Rattle.decoder.specs.Fields.{Read, value}
+use Rattle.decoder.specs.Fields as fields
+use Rattle.decoder.specs.Decode.{decode}
 use Rattle.planner.specs.declared.Planner.{Planner}
 use Rattle.planner.specs.State.{State}
 use Rattle.planner.specs.Done.{Done}

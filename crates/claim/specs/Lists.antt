@@ -7,10 +7,10 @@ use denote.Ref.{RefT, now}
 use contract.Lifetimes.{Lfts}
 use Rattle.query.specs.declared.Query.{Query}
 use Rattle.query.specs.Choice.{pick}
-use Rattle.query.specs.Fields.{Read, value}
-use Rattle.query.specs.Fields as fields
-use Rattle.query.specs.Decode.{decode}
 use Rattle.query.specs.Query.{sitesOf}
+use Rattle.decoder.specs.Fields.{Read, value}
+use Rattle.decoder.specs.Fields as fields
+use Rattle.decoder.specs.Decode.{decode}
 use Rattle.planner.specs.declared.Planner.{Planner}
 use Rattle.planner.specs.declared.AfterLoad.{AfterLoad}
 use Rattle.planner.specs.declared.AfterLink.{AfterLink}

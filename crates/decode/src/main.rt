@@ -2,15 +2,15 @@
 ghost use Prim.Native.Nat.{_<_};
 ghost use lib.ListN.{length};
 ghost use Rattle.records.specs.Records.{Onward};
+use decoder::Outcome;
+use decoder::decode;
 use libc::STDIN_FILENO;
 use libc::STDOUT_FILENO;
 use query::Lines;
-use query::Outcome;
 use query::Query;
 use query::Relations;
 use query::Sites;
 use query::amount;
-use query::decode;
 use records::record_at;
 use relations::Joins;
 use relations::wide;

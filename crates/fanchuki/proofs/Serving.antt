@@ -11,10 +11,10 @@ use Rattle.query.specs.declared.Query.{Query}
 use Rattle.query.specs.declared.Charge.{Charge}
 use Rattle.query.specs.Choice.{pick}
 use Rattle.query.specs.Cost.{Cost}
-use Rattle.query.specs.Fields.{Read, value}
-use Rattle.query.specs.Fields as fields
-use Rattle.query.specs.Decode.{decode}
-use Rattle.query.proofs.Refusals.{decode-refusals}
+use Rattle.decoder.specs.Fields.{Read, value}
+use Rattle.decoder.specs.Fields as fields
+use Rattle.decoder.specs.Decode.{decode}
+use Rattle.decoder.proofs.Refusals.{decode-refusals}
 use Rattle.tables.specs.Tables.{cheapest}
 use Rattle.tables.specs.Work.{cellsNeeded}
 use Rattle.planner.specs.declared.Planner.{Planner}

@@ -5,13 +5,13 @@ use mathlib.Core.Path.{_≡_, refl}
 use mathlib.Core.Bool.{true, false}
 use native.Mathlib.Omega.{arith}
 use Rattle.query.specs.declared.Query.{Query}
-use Rattle.query.specs.declared.sections.Outcome.{Outcome}
-use Rattle.query.specs.declared.decoding.Decoded.{Decoded}
-use Rattle.query.specs.Fields.{Read, value}
-use Rattle.query.specs.Fields as fields
-use Rattle.query.specs.Code.{decodedOf}
-use Rattle.query.specs.Decode.{decode}
-use Rattle.query.proofs.Valid.{decoded-valid}
+use Rattle.decoder.specs.declared.sections.Outcome.{Outcome}
+use Rattle.decoder.specs.declared.decoding.Decoded.{Decoded}
+use Rattle.decoder.specs.Fields.{Read, value}
+use Rattle.decoder.specs.Fields as fields
+use Rattle.decoder.specs.Code.{decodedOf}
+use Rattle.decoder.specs.Decode.{decode}
+use Rattle.decoder.proofs.Valid.{decoded-valid}
 use Rattle.planner.specs.declared.Planner.{Planner}
 use Rattle.planner.specs.State.{State, standing}
 use Rattle.planner.specs.Done.{doneWith}

@@ -5,8 +5,8 @@ use mathlib.Core.Option.{Option, none, some}
 use lib.Dec.{eqb, ltb, leb}
 use Rattle.query.specs.declared.Query.{Query}
 use Rattle.query.specs.Choice.{pick}
-use Rattle.query.specs.Decode.{Terms}
-use Rattle.query.specs.Query.{sitesOf, relined}
+use Rattle.query.specs.Query.{sitesOf}
+use Rattle.query.specs.Terms.{Terms, relined}
 use Rattle.planner.specs.State.{State, standing}
 use Rattle.planner.specs.Done.{Done, doneWith}
 

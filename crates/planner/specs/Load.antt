@@ -3,10 +3,10 @@ use Prim.Native.Nat.{ℕ}
 use mathlib.Core.List.{List}
 use Rattle.relations.specs.Trees.{subqueries}
 use Rattle.query.specs.declared.Query.{Query}
-use Rattle.query.specs.Fields.{Read, value}
-use Rattle.query.specs.Fields as fields
-use Rattle.query.specs.Decode.{decode}
 use Rattle.query.specs.Query.{relationsOf}
+use Rattle.decoder.specs.Fields.{Read, value}
+use Rattle.decoder.specs.Fields as fields
+use Rattle.decoder.specs.Decode.{decode}
 use Rattle.planner.specs.State.{State, standing}
 use Rattle.planner.specs.Done.{Done, doneWith}
 

@@ -10,10 +10,10 @@ use crate::LoadAnswer;
 use crate::Planner;
 use crate::ReadAnswer;
 use crate::SolveAnswer;
+use decoder::MOST_FIXED;
+use decoder::MOST_RATE;
+use decoder::Outcome;
 use query::Charge;
-use query::MOST_FIXED;
-use query::MOST_RATE;
-use query::Outcome;
 use query::Query;
 use rules::Checked;
 use solver::Solution;
@@ -49,7 +49,7 @@ pub fn load(p: Planner, file: &[u8]) -> AfterLoad
     ensures done { λ r. ⌜ doneOf (ofLoad (r .answer)) (r .planner) ≡ load (now (file .entry)) (stateOf p) ⌝ }
     ensures sound { λ r. ⌜ Sound (r .planner) ⌝ }
 {
-    let d = query::decode(file);
+    let d = decoder::decode(file);
     let o = d.outcome;
     match o {
         Outcome::Refused(k) => AfterLoad {

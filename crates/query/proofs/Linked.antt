@@ -1,9 +1,27 @@
 -- A query with one line replaced, by amounts up to their limits, is valid: nothing else changes.
-use Prim.Native.Nat.{ℕ, _≤_}
+use Prim.Native.Nat.{ℕ, _+_, _*_, _≤_}
+use Rattle.query.specs.declared.Lines.{Lines}
 use Rattle.query.specs.declared.Query.{Query}
-use Rattle.query.specs.Decode.{Terms, withLine}
-use Rattle.query.specs.Query.{relined, Valid, home}
-use Rattle.query.proofs.Ranges.{Fair, LinesIn, with-line}
+use Rattle.query.specs.Terms.{Terms, withLine, relined}
+use Rattle.query.specs.Query.{UpTo, Valid, home}
+use Rattle.query.proofs.Limits.{set-up-to}
+
+-- The fixed amount and the rate of a site or a line are up to their limits.
+pub record Fair (t : Terms) : Type 0 where
+  pub fixed-most : t .fixed ≤ 1_000_000
+  pub rate-most : t .rate ≤ 1_000
+
+-- So are those of every line.
+pub record LinesIn (a : Lines) : Type 0 where
+  pub fixed-most : UpTo 1_000_000 (a .fixed)
+  pub rate-most : UpTo 1_000 (a .rate)
+
+-- A line replaced by a fair one.
+pub with-line : (a b : ℕ) (ls : Lines) (t : Terms) → Fair t → LinesIn ls → LinesIn (withLine a b ls t)
+with-line a b ls t f h = record {
+  fixed-most = set-up-to _ (ls .fixed) (8 * a + b) _ (f .fixed-most) (h .fixed-most);
+  rate-most = set-up-to _ (ls .rate) (8 * a + b) _ (f .rate-most) (h .rate-most);
+}
 
 pub linked-valid : (q : Query) → Valid q → (a b : ℕ) (t : Terms) → t .fixed ≤ 1_000_000 → t .rate ≤ 1_000 → Valid (relined q a b t)
 unfolding home

@@ -1,8 +1,7 @@
 pub mod Choice
 pub mod Cost
-pub mod Fields
-pub mod Decode
-pub mod Code
+pub mod Zeros
+pub mod Terms
 pub mod Query
 pub mod Prices
 pub mod Indexed

@@ -6,7 +6,6 @@ use lib.ListN.{getD}
 use lib.Dec.{eqb}
 use Rattle.relations.specs.Trees.{Tree}
 use Rattle.query.specs.declared.Query.{Query}
-use Rattle.query.specs.Decode.{Terms, withLine}
 
 -- n and s.
 abbrev pub relationsOf : Query → ℕ
@@ -45,17 +44,6 @@ lineRate q a b = getD (q .lines .rate) (8 * a + b) 0
 -- The size of a set of relations.
 unfoldable pub size : Query → ℕ → ℕ
 size q S = getD (q .sizes) S 0
-
--- The query with the line from sender a to receiver b replaced.
-abbrev pub relined : Query → ℕ → ℕ → Terms → Query
-relined q a b t = record {
-  sites = q .sites;
-  relations = q .relations;
-  joins = q .joins;
-  sizes = q .sizes;
-  lines = withLine a b (q .lines) t;
-  target = q .target;
-}
 
 -- Every number of a list is at most a limit.
 abbrev pub UpTo : ℕ → List ℕ → Type 0

@@ -1,17 +1,10 @@
--- What is proved of the decoder and the prices. The proofs are in proofs/.
+-- What is proved of the prices. The proofs are in proofs/.
 use Prim.Native.Nat.{ℕ, _≤_}
 use mathlib.Core.Path.{_≡_}
 use mathlib.Core.Bool.{Bool}
-use mathlib.Core.List.{List}
 use Rattle.query.specs.declared.Query.{Query}
-use Rattle.query.specs.Fields.{value, refused}
-use Rattle.query.specs.Decode.{decode}
 use Rattle.query.specs.Query.{Valid}
 use Rattle.query.specs.Prices.{linePrice, joinPrice, reads, dearestLine, dearestJoin}
-
--- Every decoded query keeps to document 01's counts and ranges, and its joins make a tree.
-abbrev pub DecodeValid : Type 0
-DecodeValid = (file : List ℕ) (q : Query) (l : List ℕ) → decode file ≡ value q l → Valid q
 
 -- No line's price is above that of the dearest line, no join's above that of the dearest join.
 abbrev pub LineMost : Type 0
@@ -23,7 +16,3 @@ JoinMost = (q : Query) → Valid q → (k : ℕ) (a : Bool) (P : ℕ) (b : Bool)
 -- The order of a join's operands does not matter to their reads.
 abbrev pub ReadsEither : Type 0
 ReadsEither = (a : Bool) (x : ℕ) (b : Bool) (y : ℕ) → reads a x b y ≡ reads b y a x
-
--- A file is refused with one of the numbers 1 to 5.
-abbrev pub DecodeRefusals : Type 0
-DecodeRefusals = (file : List ℕ) (k : ℕ) → decode file ≡ refused k → (1 ≤ k) × (k ≤ 5)

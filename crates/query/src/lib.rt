@@ -1,21 +1,15 @@
-// The query, its file and its prices.
+// The query and its prices.
 mod amounts;
-mod decoding;
-mod fields;
-mod items;
-mod line_section;
-mod sections;
-mod sizes;
+mod zeros;
 
 pub use amounts::amount;
-pub use decoding::Decoded;
-pub use decoding::decode;
-pub use decoding::no_query;
-pub use items::MOST_FIXED;
-pub use items::MOST_RATE;
 use relations::Joins;
 use relations::SETS;
-pub use sections::Outcome;
+pub use zeros::no_joins;
+pub use zeros::no_lines;
+pub use zeros::no_query;
+pub use zeros::no_relations;
+pub use zeros::no_sites;
 
 pub mod price;
 

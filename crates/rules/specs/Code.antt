@@ -9,7 +9,7 @@ use Rattle.query.specs.declared.Relations.{Relations}
 use Rattle.query.specs.declared.Query.{Query}
 use Rattle.query.specs.Query.{UpTo}
 use Rattle.query.specs.Prices.{dearestLine, dearestJoin}
-use Rattle.query.specs.Decode.{noSites, noRelations, noJoins, noLines}
+use Rattle.query.specs.Zeros.{noSites, noRelations, noJoins, noLines}
 use Rattle.rules.specs.declared.Origin.the-variants.{Bare}
 use Rattle.rules.specs.declared.Step.{Step}
 use Rattle.rules.specs.declared.Listed.{Listed}

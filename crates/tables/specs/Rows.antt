@@ -12,8 +12,9 @@ use Rattle.query.specs.declared.Lines.{Lines}
 use Rattle.query.specs.declared.Query.{Query}
 use Rattle.query.specs.Choice.{pick}
 use Rattle.query.specs.Cost.{Cost, none, some}
-use Rattle.query.specs.Decode.{Terms, noLines, withLine}
 use Rattle.query.specs.Query.{relationsOf}
+use Rattle.query.specs.Terms.{Terms, withLine}
+use Rattle.query.specs.Zeros.{noLines}
 use Rattle.tables.specs.Tables.{cheapest, trials}
 use Rattle.tables.specs.Plan.{bestSite, writtenSteps}
 

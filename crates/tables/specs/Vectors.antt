@@ -8,7 +8,7 @@ use Rattle.relations.specs.Code.{mostSets}
 use Rattle.relations.specs.declared.Joins.{Joins}
 use Rattle.query.specs.declared.Query.{Query}
 use Rattle.query.specs.Cost.{some}
-use Rattle.query.specs.Decode.{noLines}
+use Rattle.query.specs.Zeros.{noLines}
 use Rattle.tables.specs.Tables.{cheapest, trials}
 use Rattle.tables.specs.Plan.{written}
 use Rattle.tables.specs.Rows.{filled, everyLine, Q, withTarget, withIndex, withMay, withLines, same}

@@ -1,6 +1,6 @@
 -- `report` meets its contract: a file that decodes whole gives the valid query that `check` asks for. Assumes nothing.
 use borrow.Author.Needs.{needs}
-use Rattle.query.proofs.Valid.{decoded-valid}
+use Rattle.decoder.proofs.Valid.{decoded-valid}
 use Rattle.check_plans.proofs.report.Statement.{statement}
 use Rattle.check_plans.proofs.report.Tie as tie
 

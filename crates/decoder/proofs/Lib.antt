@@ -1,0 +1,13 @@
+pub mod Gives
+pub mod Ranges
+pub mod Valid
+pub mod Parts
+pub mod Reading
+pub mod ItemLaws
+pub mod Loops
+pub mod SectionLaws
+pub mod LineLaws
+pub mod SizeLaws
+pub mod Kept
+pub mod FileLaws
+pub mod Refusals

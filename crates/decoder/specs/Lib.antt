@@ -1,0 +1,4 @@
+pub mod Fields
+pub mod Decode
+pub mod Code
+pub mod Theorems
