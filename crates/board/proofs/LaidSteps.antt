@@ -34,11 +34,11 @@ spared-lane h k i = go (eqb h k) (eqb i 1) refl
 
 -- The rows of the joins and of joining: each is laid once, and no later row of the four touches it.
 pub joining-laid : (a b c d e v w f g ends sides : List ℕ) (s : Sites) → length a ≡ 256 →
-    Lanes v (λ i. getD ends i 0) → Laid a b 0 (λ i. getD v i 0) 8 → Lanes w (λ i. getD sides i 0) → Laid b c 1 (λ i. getD w i 0) 8 →
-    Lanes f (λ k. ifFlagged (getD (s .may) k 0) (getD (s .fixed) k 0)) → Laid c d 2 (λ k. getD f k 0) 8 →
-    Lanes g (λ k. getD (s .rate) k 0) → Laid d e 3 (λ k. getD g k 0) 8 →
+    Laid a b 0 (λ i. getD v i 0) 8 → Laid b c 1 (λ i. getD w i 0) 8 → Laid c d 2 (λ k. getD f k 0) 8 → Laid d e 3 (λ k. getD g k 0) 8 →
+    Lanes v (λ i. getD ends i 0) → Lanes w (λ i. getD sides i 0) →
+    Lanes f (λ k. ifFlagged (getD (s .may) k 0) (getD (s .fixed) k 0)) → Lanes g (λ k. getD (s .rate) k 0) →
     JoiningLaid e ends sides s
-joining-laid a b c d e v w f g ends sides s n vs one ws two fs three gs four =
+joining-laid a b c d e v w f g ends sides s n one two three four vs ws fs gs =
     record {
       long = four .kept .long ∙ three .kept .long ∙ two .kept .long ∙ one .kept .long ∙ n;
       ends-row = λ i h. four .kept .below (0 + i) (omega arith) ∙ three .kept .below (0 + i) (omega arith) ∙ two .kept .below (0 + i) (omega arith) ∙ one .each i h ∙ vs .each i h;
@@ -59,10 +59,10 @@ module _ (home index : List ℕ) where
   pub relations-long : (old a : List ℕ) (r i v : ℕ) → RelationsLaid old a home index r → length old ≡ 256 → length (set a i v) ≡ 256
   relations-long old a r i v l n = length-set a i v ∙ l .kept .long ∙ n
 
-  pub relations-more : (old a b row : List ℕ) (r k v s : ℕ) → RelationsLaid old a home index r → r < 9 → length old ≡ 256 →
+  pub relations-more : (old a b row : List ℕ) (r k v s x : ℕ) → RelationsLaid old a home index r → r < 9 → length old ≡ 256 →
       k ≡ getD home r 0 → v ≡ 2 ^ k → s ≡ pick (eqb (getD index r 0) 1) v 0 → Lanes row (λ k. countedMask (eqb (bit s k) 1)) →
-      Laid (set a (240 + r) v) b (4 + r) (λ k. getD row k 0) 8 → RelationsLaid old b home index (r + 1)
-  relations-more old a b row r k v s l h n at of spared lanes laid =
+      Laid (set a (240 + r) x) b (4 + r) (λ k. getD row k 0) 8 → x ≡ v → RelationsLaid old b home index (r + 1)
+  relations-more old a b row r k v s x l h n at of spared lanes laid same =
       record {
         kept = kept-then old mid b 32 256 (8 * (4 + r)) (8 * (4 + r) + 8) 32 256
             (kept-then old a mid 32 256 (240 + r) (241 + r) 32 256 (l .kept) stored (omega arith) (omega arith) (omega arith) (omega arith)) (laid .kept)
@@ -70,17 +70,17 @@ module _ (home index : List ℕ) where
         counted = rows-more mid b 4 (countedIn home index) r (rows-below a mid 4 (countedIn home index) r (l .counted) (240 + r) (241 + r) stored (omega arith)) row-is;
         homes = below-more (λ (i : ℕ). getD b (240 + i) 0 ≡ 2 ^ getD home i 0) r
             (λ i m. laid .kept .above (240 + i) (omega arith) ∙ stored .below (240 + i) (omega arith) ∙ l .homes i m)
-            (laid .kept .above (240 + r) (omega arith) ∙ getD-set-same a (240 + r) v 0 (omega (arith, l .kept .long)) ∙ homes);
+            (laid .kept .above (240 + r) (omega arith) ∙ getD-set-same a (240 + r) x 0 (omega (arith, l .kept .long)) ∙ same ∙ homes);
       }
     where
       homes : v ≡ 2 ^ getD home r 0
       homes = cc
 
       mid : List ℕ
-      mid = set a (240 + r) v
+      mid = set a (240 + r) x
 
       stored : Kept a mid (240 + r) (241 + r)
-      stored = kept-set a (240 + r) v (240 + r) (241 + r) (omega arith) (omega arith)
+      stored = kept-set a (240 + r) x (240 + r) (241 + r) (omega arith) (omega arith)
 
       mask-is : (k : ℕ) → countedMask (eqb (bit s k) 1) ≡ countedIn home index r k
       mask-is k = rw (spared, homes) (ap countedMask (spared-lane (getD home r 0) k (getD index r 0)))

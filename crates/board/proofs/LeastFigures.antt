@@ -1,5 +1,5 @@
 -- Laws of the figures that the code keeps: the lesser of two, and the least of many with its lowest place.
-use Prim.Native.Nat.{ℕ, zero, suc, _+_, _^_, _≤_, _<_}
+use Prim.Native.Nat.{ℕ, zero, suc, _+_, _≤_, _<_}
 use native.Mathlib.Nat.{le-refl}
 use native.Mathlib.Numerals.{add-one}
 use native.Mathlib.Decide.{decLt}
@@ -54,7 +54,7 @@ least-skip g p (suc n) l h = elim (decLt n p) [
 ]
 
 -- The least before any figure, and with one figure more.
-pub choice-none : (g : ℕ → ℕ) → ChoiceOf g 0 (record { figure = 2 ^ 60; at = 0 })
+pub choice-none : (g : ℕ → ℕ) → ChoiceOf g 0 (record { figure = noneMark; at = 0 })
 unfolding leastOf placeOf
 choice-none g = record { figure-is = refl; at-is = refl }
 

@@ -4,7 +4,7 @@ ghost use mathlib.Core.Path.{_≡_};
 ghost use lib.ListN.{length};
 
 // What cell i is filled with.
-fn cell(i: usize) -> u64
+fn cell_before(i: usize) -> u64
     requires { ⌜ i < 8192 ⌝ }
 {
     (i as u64) * 2654435761 + 12345
@@ -17,7 +17,7 @@ pub(crate) fn cells() -> [u64; 8192]
     let mut cells = [0u64; 8192];
     let mut i = 0;
     while i < 8192 {
-        cells[i] = cell(i);
+        cells[i] = cell_before(i);
         i += 1;
     }
     cells
@@ -37,7 +37,7 @@ pub(crate) fn cells_kept(cells: &[u64; 8192], from: usize, to: usize) -> bool
 {
     let mut i = from;
     while i < to {
-        if cells[i] != cell(i) {
+        if cells[i] != cell_before(i) {
             return false;
         }
         i += 1;
@@ -46,7 +46,7 @@ pub(crate) fn cells_kept(cells: &[u64; 8192], from: usize, to: usize) -> bool
 }
 
 // What output byte i is filled with.
-fn mark(i: usize) -> u8
+fn byte_before(i: usize) -> u8
     requires { ⌜ i < 4096 ⌝ }
 {
     ((i * 37 + 11) % 256) as u8
@@ -59,7 +59,7 @@ pub(crate) fn output() -> [u8; 4096]
     let mut bytes = [0u8; 4096];
     let mut i = 0;
     while i < 4096 {
-        bytes[i] = mark(i);
+        bytes[i] = byte_before(i);
         i += 1;
     }
     bytes
@@ -79,7 +79,7 @@ pub(crate) fn output_kept(bytes: &[u8; 4096], to: usize) -> bool
 {
     let mut i = 0;
     while i < to {
-        if bytes[i] != mark(i) {
+        if bytes[i] != byte_before(i) {
             return false;
         }
         i += 1;

@@ -2,29 +2,33 @@
 mod answers;
 mod input;
 mod lent;
-mod output;
-mod turns;
+mod printing;
+mod records;
 
+use libc::STDERR_FILENO;
 use planner::Planner;
 ghost use Rattle.planner.specs.Contracts.{Sound};
 
 fn main() {
-    run(planner::empty());
+    if !run(planner::empty()) {
+        io::write_all(STDERR_FILENO, b"calls: an answer was not written\n");
+    }
 }
 
-// Runs records until one ends the run. A proved loop has to end, so it counts down from a number that no script uses up.
-fn run(start: Planner)
+// Runs records until one ends the run: whether every answer was written.
+// A proved loop has to end, so it counts down from a number that no script uses up.
+fn run(start: Planner) -> bool
     requires { ⌜ Sound start ⌝ }
 {
     let mut p = start;
     let mut left = u64::MAX;
     while 0 < left {
-        let t = turns::turn(p);
-        if t.more {
-            p = t.planner;
-            left -= 1;
-        } else {
-            return;
+        let after = records::next(p);
+        if !after.more {
+            return after.written;
         }
+        p = after.planner;
+        left -= 1;
     }
+    true
 }

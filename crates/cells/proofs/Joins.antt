@@ -49,15 +49,16 @@ pub record JoinedTo (combine : ℕ → ℕ → ℕ) (l : Lent) (joins S : ℕ) (
   pub marked : Marked row
 
 module _ (combine : ℕ → ℕ → ℕ) (l : Lent) (joins S : ℕ) where
-  pub joined-none : joins < 256 → JoinedTo combine l joins S (replicate 8 (2 ^ 60)) joins
-  joined-none few =
+  -- At first every join is left.
+  pub joined-none : (left : ℕ) → left ≡ joins → joins < 256 → JoinedTo combine l joins S (replicate 8 noneMark) left
+  joined-none left every few =
       record {
         at = 0;
         at-most = zero-le;
         gone = λ e h. absurd (omega arith);
-        same = λ e h. refl;
-        few = few;
-        lanes = least-none (joinTrial combine l joins S);
+        same = λ e h. ap (λ (x : ℕ). bit x e) every;
+        few = omega arith;
+        lanes = least-none (joinTrial combine l joins S) _ 0 refl refl;
         marked = none-marked;
       }
 

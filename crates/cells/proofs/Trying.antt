@@ -1,5 +1,5 @@
 -- What a price, a trial and a carriage come to, and that their sums keep far below a word's limit.
-use Prim.Native.Nat.{ℕ, _+_, _*_, _^_, _≤_, _<_, zero-le}
+use Prim.Native.Nat.{ℕ, _+_, _*_, _≤_, _<_, zero-le}
 use native.Mathlib.Nat.{le-refl}
 use native.Mathlib.Omega.{arith}
 use mathlib.Core.Path.{_≡_, sym, _∙_}
@@ -54,7 +54,7 @@ pub stands-is : (homes k b : ℕ) → b ≡ bit homes k → b ≡ 1 → 0 ≡ ba
 unfolding bareAt
 stands-is homes k b is one = rw (eq-eqb (bit homes k) 1 (sym is ∙ one))
 
-pub stands-not : (homes k b : ℕ) → b ≡ bit homes k → (b ≡ 1 → ⊥) → 2 ^ 60 ≡ bareAt homes k
+pub stands-not : (homes k b : ℕ) → b ≡ bit homes k → (b ≡ 1 → ⊥) → noneMark ≡ bareAt homes k
 unfolding bareAt
 stands-not homes k b is other = rw (ne-eqb (bit homes k) 1 (λ e. other (is ∙ e)))
 

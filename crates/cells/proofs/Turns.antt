@@ -1,5 +1,5 @@
 -- Each turn of a loop over the eight lanes of a row keeps what the loop has shown so far; and a row of least figures takes one figure more at each lane.
-use Prim.Native.Nat.{ℕ, _+_, _^_, _≤_, _<_}
+use Prim.Native.Nat.{ℕ, _+_, _≤_, _<_}
 use native.Mathlib.Nat.{le-refl, le-antisymm}
 use native.Mathlib.Numerals.{add-one}
 use native.Mathlib.Omega.{arith}
@@ -14,7 +14,7 @@ use Rattle.board.specs.Figures.{noneMark, lesser, leastOf, Lanes, Marked, Tried
 use Rattle.board.proofs.LeastFigures.{least-skip}
 
 -- No figure above none: in a row of none, after a store, and in a row of figures none of which is.
-pub none-marked : Marked (replicate 8 (2 ^ 60))
+pub none-marked : Marked (replicate 8 noneMark)
 none-marked = record { long = refl; most = λ k h. rw (getD-replicate 8 k noneMark 0 h) (le-refl _) }
 
 pub marked-set : (row : List ℕ) (k v : ℕ) → Marked row → v ≤ noneMark → Marked (set row k v)
@@ -50,9 +50,9 @@ tried-done old new g k r l = (listed-done new _ 8 k 8 (r .below) l, r .marked)
 
 -- A row of least figures, before any figure, with one figure more, and past figures that are none.
 module _ (g : ℕ → ℕ → ℕ) where
-  pub least-none : Lanes (replicate 8 (2 ^ 60)) (λ (k : ℕ). leastOf (g k) 0)
+  pub least-none : (row : List ℕ) (m : ℕ) → row ≡ replicate 8 noneMark → m ≡ 0 → Lanes row (λ (k : ℕ). leastOf (g k) m)
   unfolding leastOf
-  least-none = record { long = refl; each = λ k h. getD-replicate 8 k noneMark 0 h }
+  least-none row m e first = rw (e, first) (record { long = refl; each = λ k h. getD-replicate 8 k noneMark 0 h })
 
   pub least-more : (h : ℕ → ℕ) (e : ℕ) (row new : List ℕ) → Lanes row (λ (k : ℕ). leastOf (g k) e) → Tried row new h → ((k : ℕ) → k < 8 → h k ≡ g k e) →
       Lanes new (λ (k : ℕ). leastOf (g k) (e + 1))

@@ -13,7 +13,7 @@ use Rattle.query.specs.Choice.{pick}
 use Rattle.query.specs.Cost.{Cost}
 use Rattle.query.specs.Query.{Valid}
 use Rattle.tables.specs.Tables.{cheapest, trials}
-use Rattle.tables.specs.Plan.{written}
+use Rattle.tables.specs.Written.{written}
 use Rattle.tables.specs.Work.{cellsNeeded}
 use Rattle.tables.proofs.Upper.{written-law}
 use Rattle.tables.proofs.Lower.{cheapest-law}

@@ -11,7 +11,7 @@ use lib.ListN.{length}
 use denote.Ref.{RefT, now}
 use contract.Lifetimes.{Lfts}
 use Rattle.query.specs.declared.Query.{Query}
-use Rattle.rules.specs.Plans.{AllowedAt, Allowed}
+use Rattle.rules.specs.Allowed.{AllowedAt, Allowed}
 use Rattle.tables.specs.Tables.{trials}
 use Rattle.planner.specs.declared.Planner.{Planner}
 use Rattle.planner.specs.declared.AfterSolve.{AfterSolve}

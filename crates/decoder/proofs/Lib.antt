@@ -11,3 +11,5 @@ pub mod SizeLaws
 pub mod Kept
 pub mod FileLaws
 pub mod Refusals
+pub mod Lengths
+pub mod Longest

@@ -1,4 +1,4 @@
--- The query file, section by section in reading order: document 01's "The query" and refusals 1 to 5.
+-- The query file, section by section in reading order: rule 2.10 and refusals 1 to 5, byte by byte in docs/FORMAT.md.
 use Prim.Native.Nat.{ℕ, _-_, _*_, _^_}
 use mathlib.Core.List.{List, []}
 use lib.ListN.{length, set, replicate}

@@ -1,4 +1,5 @@
 pub mod Fields
 pub mod Decode
 pub mod Code
+pub mod Length
 pub mod Theorems

@@ -3,7 +3,6 @@
 use Prim.Native.Nat.{ℕ, _+_}
 use mathlib.Core.List.{List}
 use Rattle.planner.specs.State.{State, nothing}
-use Rattle.planner.specs.Done.{Done}
 use Rattle.planner.specs.Load as Load
 use Rattle.planner.specs.Solve as Solve
 use Rattle.planner.specs.Read as Read
@@ -35,11 +34,8 @@ onSolved (Solve.noRoute t) s out = served 0 out
 onSolved (Solve.refused k) s out = served (refusal k) out
 
 -- The solve has as many cells as it needs.
-abbrev pub solveNeeded : State → Done Solve.Answer
-solveNeeded s = Solve.solve (Solve.needed (s .query)) s
-
 unfoldable pub serveSolve : State → List ℕ → Served
-serveSolve s out = onSolved (solveNeeded s .answer) (solveNeeded s .next) out
+serveSolve s out = onSolved (Solve.solveNeeded s .answer) (Solve.solveNeeded s .next) out
 
 -- A query that was loaded is solved; a refusal ends the call, and the output stays.
 abbrev pub onLoaded : Load.Answer → State → List ℕ → Served

@@ -3,10 +3,11 @@ use Prim.Native.Nat.{ℕ, _+_}
 use mathlib.Core.List.{List}
 use mathlib.Core.Path.{_≡_}
 use mathlib.Core.Bool.{true, false}
+use borrow.Author.Tests.{not-true, not-false}
 use Rattle.query.specs.declared.Charge.{Charge}
 use Rattle.rules.specs.declared.Checked.{Checked}
 use Rattle.rules.specs.declared.Checked.the-variants.{Accepted, Rejected}
-use Rattle.rules.specs.Plans.{checked}
+use Rattle.rules.specs.Allowed.{checked}
 use Rattle.rules.specs.Code.{verdictOf}
 use Rattle.planner.specs.declared.Planner.{Planner}
 use Rattle.planner.specs.Check.{allowed, refused, check}
@@ -26,4 +27,4 @@ module _ (p : Planner) (plan : List ℕ) (r : Checked) (loaded : p .loaded ≡ t
   unfolding check
   check-rejected k i e = rw (loaded, ← verdict, e)
 
-pub ruleset checking = (check-nothing, check-accepted, check-rejected, standing-valid)
+pub ruleset checking = (not-true, not-false, check-nothing, check-accepted, check-rejected, standing-valid)

@@ -6,3 +6,4 @@ pub mod Again
 pub mod Solving
 pub mod Reading
 pub mod Checking
+pub mod Worked

@@ -2,7 +2,7 @@
 use Prim.Native.Nat.{ℕ, _≤_, _<_}
 use mathlib.Core.Path.{_≡_, sym, _∙_}
 use mathlib.Core.Bool.{Bool, true, false, _&&_}
-use borrow.Author.Tests.{ltb-true, leb-true}
+use borrow.Author.Tests.{ltb-true, leb-true, not-true, not-false}
 use lib.Dec.{ltb, leb}
 use native.Mathlib.Omega.{arith}
 use Rattle.relations.proofs.Leads.{both-true}
@@ -31,48 +31,26 @@ module _ (p : Planner) (l : Link) (loaded : p .loaded ≡ true) (t : Bool) (list
     unfolding link
     link-goes r in-range h k m = rw (loaded, ← listed, both-listed, ← ranged, in-range, h, k, m)
 
+-- Listed sites are below eight.
+pub sites-low : (p : Planner) (a b : ℕ) → Sound p → p .loaded ≡ true → (t : Bool) → t ≡ sitesListed (sitesOf (p .query)) a b → t ≡ true → (a < 8) × (b < 8)
+unfolding sitesListed
+sites-low p a b sound loaded t listed both =
+    let n = sitesOf (p .query) in
+    let h = both-true (ltb a n) (ltb b n) (both-true (ltb a n && ltb b n) _ (sym listed ∙ both) .0) in
+    let v = sound .valid loaded in
+    omega (arith, ltb-true a n (h .0), ltb-true b n (h .1))
+
 -- Terms in range are within their limits.
-module _ (o f r : ℕ) (u : Bool) (ranged : u ≡ termsInRange (record { flag = o; fixed = f; rate = r })) (in-range : u ≡ true) where
-  all-fair : (o ≤ 1) × (f ≤ 1_000_000) × (r ≤ 1_000)
-  unfolding termsInRange
-  all-fair =
-      let a = both-true (leb o 1 && leb f 1_000_000) (leb r 1_000) (sym ranged ∙ in-range) in
-      let b = both-true (leb o 1) (leb f 1_000_000) (a .0) in
-      (leb-true _ _ (b .0), leb-true _ _ (b .1), leb-true _ _ (a .1))
-
-  pub flag-fair : o ≤ 1
-  flag-fair = all-fair .0
-
-  pub fixed-fair : f ≤ 1_000_000
-  fixed-fair = all-fair .1
-
-  pub rate-fair : r ≤ 1_000
-  rate-fair = all-fair .2
+pub terms-fair : (o f r : ℕ) (u : Bool) → u ≡ termsInRange (record { flag = o; fixed = f; rate = r }) → u ≡ true → (o ≤ 1) × (f ≤ 1_000_000) × (r ≤ 1_000)
+unfolding termsInRange
+terms-fair o f r u ranged in-range =
+    let a = both-true (leb o 1 && leb f 1_000_000) (leb r 1_000) (sym ranged ∙ in-range) in
+    let b = both-true (leb o 1) (leb f 1_000_000) (a .0) in
+    (leb-true _ _ (b .0), leb-true _ _ (b .1), leb-true _ _ (a .1))
 
 pub link-sound :
-    (p r : Planner) (l : Link) → Sound p → p .loaded ≡ true → (u : Bool) → u ≡ termsInRange (l .terms) → u ≡ true → r .length ≡ p .length →
+    (p r : Planner) (l : Link) → Sound p → p .loaded ≡ true → l .terms .fixed ≤ 1_000_000 → l .terms .rate ≤ 1_000 → r .length ≡ p .length →
     r .query ≡ relinedBy (p .query) l → Sound r
-link-sound p r l s e u ranged in-range h m =
-    let fair = all-fair (l .terms .flag) (l .terms .fixed) (l .terms .rate) u ranged in-range in
-    record {
-      valid = λ _. rw m (linked-valid (p .query) (s .valid e) (l .sender) (l .receiver) (l .terms) (fair .1) (fair .2));
-      short = rw h (s .short);
-    }
+link-sound p r l s e f g h m = record { valid = λ _. rw m (linked-valid (p .query) (s .valid e) (l .sender) (l .receiver) (l .terms) f g); short = rw h (s .short) }
 
--- Listed sites are below eight.
-module _ (p : Planner) (a b : ℕ) (sound : Sound p) (loaded : p .loaded ≡ true) (t : Bool) (listed : t ≡ sitesListed (sitesOf (p .query)) a b) (both : t ≡ true) where
-  both-low : (a < 8) × (b < 8)
-  unfolding sitesListed
-  both-low =
-      let n = sitesOf (p .query) in
-      let h = both-true (ltb a n) (ltb b n) (both-true (ltb a n && ltb b n) _ (sym listed ∙ both) .0) in
-      let v = sound .valid loaded in
-      omega (arith, ltb-true a n (h .0), ltb-true b n (h .1))
-
-  pub sender-low : a < 8
-  sender-low = both-low .0
-
-  pub receiver-low : b < 8
-  receiver-low = both-low .1
-
-pub ruleset linking = (link-nothing, link-unlisted, link-out, link-goes, link-sound, sender-low, receiver-low)
+pub ruleset linking = (not-true, not-false, link-nothing, link-unlisted, link-out, link-goes, link-sound)

@@ -5,9 +5,9 @@ use mathlib.Core.Path.{_≡_}
 use mathlib.Core.Bool.{true, false}
 use lib.ListN.{length, take, drop}
 use lib.Seq.{length-take-le, take-length}
-use borrow.Author.Tests.{lt-ltb, le-ltb}
+use borrow.Author.Tests.{lt-ltb, le-ltb, not-true, not-false}
 use native.Mathlib.Omega.{arith}
-use Rattle.rules.specs.Plans.{longestPlan}
+use Rattle.rules.specs.Allowed.{longestPlan}
 use Rattle.planner.specs.declared.Planner.{Planner}
 use Rattle.planner.specs.Read.{wrote, refused, readingOf, read}
 use Rattle.planner.specs.Contracts.{stateOf}
@@ -43,4 +43,4 @@ module _ (p : Planner) (m : ℕ) (short : m ≤ longestPlan) (room : length (p .
   pub plan-fits : (n : ℕ) → m ≤ n → length (take m (p .plan)) ≤ n
   plan-fits n h = rw (← plan-length) h
 
-pub ruleset reading = (read-nothing, read-unkept, read-short, read-goes, plan-whole, plan-length, plan-fits)
+pub ruleset reading = (not-true, not-false, read-nothing, read-unkept, read-short, read-goes, plan-whole, plan-length, plan-fits)

@@ -6,16 +6,16 @@ use mathlib.Core.Bool.{true, false}
 use mathlib.Core.List.{List}
 use lib.ListN.{length, drop}
 use lib.Seq.{take-append-seam}
-use borrow.Author.Tests.{lt-ltb, le-ltb, le-leb}
+use borrow.Author.Tests.{lt-ltb, le-ltb, le-leb, not-true, not-false}
 use Rattle.query.specs.declared.Query.{Query}
 use Rattle.query.specs.declared.Charge.{Charge}
 use Rattle.query.specs.Cost.{Cost, none, some}
 use Rattle.query.specs.Query.{Valid}
-use Rattle.rules.specs.Plans.{longestPlan}
+use Rattle.rules.specs.Allowed.{longestPlan}
 use Rattle.solver.specs.declared.Solution.{Solution}
 use Rattle.solver.specs.declared.Solution.the-variants.{Found, NoRoute}
 use Rattle.tables.specs.Tables.{cheapest, trials}
-use Rattle.tables.specs.Plan.{written}
+use Rattle.tables.specs.Written.{written}
 use Rattle.tables.specs.Work.{cellsNeeded}
 use Rattle.solver.specs.Solution.{solutionOf, planAfter}
 use Rattle.tables.proofs.Upper.{written-most}
@@ -107,6 +107,8 @@ pub solve-sound : (p r : Planner) → Sound p → p .loaded ≡ true → r .quer
 solve-sound p r s loaded same short = record { valid = λ _. rw same (s .valid loaded); short = short }
 
 pub ruleset solving = (
+  not-true,
+  not-false,
   solve-nothing,
   solve-few,
   not-refused,

@@ -3,7 +3,7 @@ use Prim.Native.Nat.{ℕ, _+_}
 use mathlib.Core.List.{List}
 use mathlib.Core.Option.{Option, none, some}
 use Rattle.query.specs.declared.Query.{Query}
-use Rattle.rules.specs.Plans.{Verdict, accepted, rejected, checked}
+use Rattle.rules.specs.Allowed.{Verdict, accepted, rejected, checked}
 use Rattle.planner.specs.State.{State}
 
 -- What check answers. A refusal has its number and its place: the step from 0 for 8 to 11, the count for 12; else 0.

@@ -1,4 +1,4 @@
--- How the code's planner and answers stand for document 01's: a number and values for each case of an answer.
+-- How the code's planner and answers stand for the rules': a number and values for each case of an answer (rule 12.3).
 use Prim.Native.Nat.{_≤_}
 use mathlib.Core.Path.{_≡_}
 use mathlib.Core.Bool.{true}
@@ -6,7 +6,7 @@ use mathlib.Core.Option.{none, some}
 use lib.ListN.{take}
 use Rattle.query.specs.Choice.{pick}
 use Rattle.query.specs.Query.{Valid}
-use Rattle.rules.specs.Plans.{longestPlan}
+use Rattle.rules.specs.Allowed.{longestPlan}
 use Rattle.planner.specs.declared.Planner.{Planner}
 use Rattle.planner.specs.declared.LoadAnswer.{LoadAnswer}
 use Rattle.planner.specs.declared.LinkAnswer.{LinkAnswer}
@@ -33,7 +33,7 @@ stateOf p =
 abbrev pub doneOf : {Answer : Type 0} → Answer → Planner → Done Answer
 doneOf a p = doneWith a (stateOf p)
 
--- Each call's answer by document 01's numbers and values.
+-- Each call's answer by the rules' numbers and values.
 abbrev pub ofLoad : LoadAnswer → Load.Answer
 ofLoad (LoadAnswer.Loaded n m) = Load.loaded n m
 ofLoad (LoadAnswer.Refused k) = Load.refused k

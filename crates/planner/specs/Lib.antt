@@ -6,3 +6,4 @@ pub mod Solve
 pub mod Read
 pub mod Check
 pub mod Contracts
+pub mod Worked

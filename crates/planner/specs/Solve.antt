@@ -8,7 +8,7 @@ use Rattle.query.specs.declared.Query.{Query}
 use Rattle.query.specs.Choice.{pick}
 use Rattle.query.specs.Cost.{Cost}
 use Rattle.tables.specs.Tables.{cheapest, trials}
-use Rattle.tables.specs.Plan.{written}
+use Rattle.tables.specs.Written.{written}
 use Rattle.tables.specs.Work.{cellsNeeded}
 use Rattle.planner.specs.State.{State, standing}
 use Rattle.planner.specs.Done.{Done, doneWith}
@@ -40,3 +40,7 @@ solveAdmitted (some q) cells = leb (cellsNeeded q) cells
 abbrev pub needed : Option Query → ℕ
 needed none = 0
 needed (some q) = cellsNeeded q
+
+-- Solve with as many cells as it needs.
+abbrev pub solveNeeded : State → Done Answer
+solveNeeded s = solve (needed (s .query)) s

@@ -108,20 +108,20 @@ pub fn link(p: Planner, sender: u64, receiver: u64, opened: u64, fixed: u64, rat
     ensures done { λ r. ⌜ doneOf (ofLink (r .answer)) (r .planner) ≡ link (linkOf sender receiver opened fixed rate) (stateOf p) ⌝ }
     ensures sound { λ r. ⌜ Sound (r .planner) ⌝ }
 {
-    if p.loaded {} else {
+    if !p.loaded {
         return AfterLink {
             answer: LinkAnswer::Refused(20),
             planner: p,
         };
     }
     let q = p.query;
-    if sites_listed(q.sites.count as u64, sender, receiver) {} else {
+    if !sites_listed(q.sites.count as u64, sender, receiver) {
         return AfterLink {
             answer: LinkAnswer::Refused(6),
             planner: p,
         };
     }
-    if terms_in_range(opened, fixed, rate) {} else {
+    if !terms_in_range(opened, fixed, rate) {
         return AfterLink {
             answer: LinkAnswer::Refused(3),
             planner: p,
@@ -146,7 +146,7 @@ pub fn solve(p: Planner, cells: &mut [u64]) -> AfterSolve
     ensures later { λ _. ⌜ drop (needed (stateOf p .query)) (now (cells .exit)) ≡ drop (needed (stateOf p .query)) (now (cells .entry)) ⌝ }
     ensures refused { λ _. ⌜ (solveAdmitted (stateOf p .query) (length (now (cells .entry))) ≡ false → now (cells .exit) ≡ now (cells .entry)) ⌝ }
 {
-    if p.loaded {} else {
+    if !p.loaded {
         return AfterSolve {
             answer: SolveAnswer::Refused(20),
             planner: p,
@@ -187,10 +187,10 @@ pub fn read(p: Planner, output: &mut [u8]) -> ReadAnswer
     requires { ⌜ Sound p ⌝ }
     ensures { λ r. ⌜ readingOf (ofRead r) (now (output .exit)) ≡ read (now (output .entry)) (stateOf p) ⌝ }
 {
-    if p.loaded {} else {
+    if !p.loaded {
         return ReadAnswer::Refused(20);
     }
-    if p.kept {} else {
+    if !p.kept {
         return ReadAnswer::Refused(22);
     }
     let length = p.length;
@@ -211,7 +211,7 @@ pub fn check(p: Planner, plan: &[u8]) -> CheckAnswer
     requires { ⌜ Sound p ⌝ }
     ensures { λ r. ⌜ ofCheck r ≡ check (now (plan .entry)) (stateOf p) ⌝ }
 {
-    if p.loaded {} else {
+    if !p.loaded {
         return CheckAnswer::Refused {
             number: 20,
             place: 0,

@@ -1,4 +1,4 @@
--- A cost: a number of charge units, or none. None is document 01's "none": no number stands for it.
+-- A cost: a number of charge units, or none. None is that of rule 5.1: no number stands for it.
 use Prim.Native.Nat.{ℕ, _+_, _≤_}
 
 pub data Cost : Type 0 where

@@ -1,4 +1,4 @@
--- Document 01's "Prices".
+-- Prices: rules 3.2 to 3.5.
 use Prim.Native.Nat.{ℕ, _+_, _*_}
 use mathlib.Core.Bool.{Bool, _&&_}
 use lib.Count.{ones}
@@ -37,7 +37,7 @@ joinCharge fixed rate reads result = fixed + rate * (reads + result)
 unfoldable pub joinPrice : Query → ℕ → Bool → ℕ → Bool → ℕ → ℕ
 joinPrice q k a P b R = joinCharge (joinFixed q k) (joinRate q k) (reads a (size q P) b (size q R)) (size q (P + R))
 
--- What a line, a carriage and a join cost at most, each amount at document 01's limit. A carriage takes one line.
+-- What a line, a carriage and a join cost at most, each amount at its limit (rule 2.9). A carriage takes one line.
 abbrev pub dearestLine : ℕ
 dearestLine = 1_000_001_000_000
 

@@ -1,4 +1,4 @@
--- The parts of a query by document 01's names, and what every decoded query keeps to.
+-- The parts of a query by the rules' names, and what every decoded query keeps to.
 use Prim.Native.Nat.{ℕ, _+_, _*_, _≤_, _<_}
 use mathlib.Core.Bool.{Bool}
 use mathlib.Core.List.{List}

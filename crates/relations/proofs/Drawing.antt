@@ -1,34 +1,14 @@
--- What the tests of the joins show: ends in range, a tree, and sets that growth may start from.
-use Prim.Native.Nat.{ℕ, zero, suc, _+_, _^_, _≤_, _<_}
+-- What drawn joins and the test of the tree show: a tree, ends in range, and sets that growth may start from.
+use Prim.Native.Nat.{ℕ, _+_, _^_, _<_}
 use mathlib.Core.Path.{_≡_, refl, sym, _∙_, subst}
-use mathlib.Core.Bool.{Bool, true, false, _&&_}
-use mathlib.Core.Logic.{⊎-elim}
-use native.Mathlib.Nat.{eq-or-lt-of-le, le-of-suc-le-suc}
+use mathlib.Core.Bool.{Bool, true}
 use native.Mathlib.Omega.{arith}
-use borrow.Author.Tests.{ltb-true, le-leb, lt-leb}
-use lib.Dec.{ltb}
 use Rattle.relations.specs.declared.Joins.{Joins}
 use Rattle.relations.specs.Sets.{Sub, all}
 use Rattle.relations.specs.Growth.{first, second}
-use Rattle.relations.specs.Trees.{reaches, subqueries, Tree}
-use Rattle.relations.specs.Code.{Drawn, Growable, endsBelow, counted}
+use Rattle.relations.specs.Trees.{reaches, Tree}
+use Rattle.relations.specs.Code.{Drawn, Growable}
 use Rattle.relations.proofs.Bits.{bit-all, sub-single, all-below}
-use Rattle.relations.proofs.Leads.{both-true}
-
--- The test of the ends, at each join.
-ends-at : (J : Joins) (n m : ℕ) → endsBelow J n m ≡ true → (e : ℕ) → e < m → (first J e < n) × (second J e < n)
-unfolding endsBelow
-ends-at J n zero t e h = absurd (omega arith)
-ends-at J n (suc m) t e h =
-    let parts = both-true (endsBelow J n m) (ltb (first J m) n && ltb (second J m) n) t in
-    let here = both-true (ltb (first J m) n) (ltb (second J m) n) (parts .1) in
-    ⊎-elim (λ q. subst (λ (i : ℕ). (first J i < n) × (second J i < n)) (sym q) (ltb-true (first J m) n (here .0), ltb-true (second J m) n (here .1)))
-    (λ l. ends-at J n m (parts .0) e l) (eq-or-lt-of-le (le-of-suc-le-suc h))
-
-pub drawn-of : (J : Joins) (d : Bool) → J .count ≤ 8 → d ≡ endsBelow J (J .count + 1) (J .count) → d ≡ true → Drawn J
-drawn-of J d few q t =
-    let ends = ends-at J (J .count + 1) (J .count) (sym q ∙ t) in
-    record { few = few; first-in = λ e h. ends e h .0; second-in = λ e h. ends e h .1 }
 
 pub tree-of : (J : Joins) (t : Bool) → Drawn J → t ≡ reaches J (J .count + 1) → t ≡ true → Tree J (J .count + 1)
 tree-of J t d q h = record { joins = refl; first-in = d .first-in; second-in = d .second-in; reached = sym q ∙ h }
@@ -58,21 +38,3 @@ single-growable J r S A d h p q =
 
 pub root-growable : (J : Joins) (S A : ℕ) → Drawn J → S ≡ all (J .count + 1) → A ≡ 2 ^ 0 → Growable J S A
 root-growable J S A d p q = single-growable J 0 S A d (omega arith) p q
-
--- The count for any joins, by the tests that the code makes.
-pub counted-many : (J : Joins) → 8 < J .count → 0 ≡ counted J
-unfolding counted
-counted-many J h = cc (lt-leb (J .count) 8 h)
-
-pub counted-astray : (J : Joins) (d : Bool) → J .count ≤ 8 → d ≡ endsBelow J (J .count + 1) (J .count) → d ≡ false → 0 ≡ counted J
-unfolding counted
-counted-astray J d h q t = cc (le-leb (J .count) 8 h)
-
-module _ (J : Joins) (d t : Bool) (h : J .count ≤ 8) (q : d ≡ endsBelow J (J .count + 1) (J .count)) (yes : d ≡ true) (p : t ≡ reaches J (J .count + 1)) where
-  pub counted-apart : t ≡ false → 0 ≡ counted J
-  unfolding counted
-  counted-apart none = cc (le-leb (J .count) 8 h)
-
-  pub counted-tree : (r : ℕ) → t ≡ true → r ≡ subqueries J (J .count + 1) → r ≡ counted J
-  unfolding counted
-  counted-tree r every k = cc (le-leb (J .count) 8 h)

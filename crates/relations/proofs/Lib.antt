@@ -11,6 +11,7 @@ pub mod Leads
 pub mod Growth
 pub mod Connected
 pub mod Sums
+pub mod Between
 pub mod Trees
 pub mod Halves
 pub mod Splits
@@ -18,3 +19,5 @@ pub mod Unions
 pub mod JoinCounts
 pub mod SubqueryCount
 pub mod Subqueries
+pub mod Among
+pub mod SubqueriesMost

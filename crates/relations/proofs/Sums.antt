@@ -1,6 +1,6 @@
 -- Sums of numbers over the joins below m, to count joins by.
-use Prim.Native.Nat.{ℕ, zero, suc, _+_, _≤_, _<_}
-use mathlib.Core.Path.{_≡_, refl}
+use Prim.Native.Nat.{ℕ, zero, suc, _+_, _*_, _≤_, _<_}
+use mathlib.Core.Path.{_≡_, refl, ap, _∙_}
 use mathlib.Core.Logic.{_⊎_, inl, inr}
 use native.Mathlib.Nat.{eq-or-lt-of-le, le-of-suc-le-suc}
 use native.Mathlib.Omega.{arith}
@@ -33,3 +33,17 @@ pub sum-ones : (m : ℕ) → sum m (λ i. 1) ≡ m
 unfolding sum
 sum-ones zero = refl
 sum-ones (suc m) = omega (arith, sum-ones m)
+
+pub sum-none : (m : ℕ) (f : ℕ → ℕ) → ((i : ℕ) → f i ≡ 0) → sum m f ≡ 0
+unfolding sum
+sum-none zero f none = refl
+sum-none (suc m) f none = omega (arith, sum-none m f none, none m)
+
+-- Even places and odd places.
+pub sum-pairs : (m : ℕ) (f : ℕ → ℕ) → sum (2 * m) f ≡ sum m (λ i. f (2 * i)) + sum m (λ i. f (2 * i + 1))
+unfolding sum
+sum-pairs zero f = refl
+sum-pairs (suc m) f =
+    let twice : 2 * suc m ≡ suc (suc (2 * m)) = omega arith in
+    let odd : suc (2 * m) ≡ 2 * m + 1 = omega arith in
+    ap (λ (x : ℕ). sum x f) twice ∙ omega (arith, sum-pairs m f, ap f odd)

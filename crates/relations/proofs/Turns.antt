@@ -1,20 +1,20 @@
 -- What the code's loops and calls lean on: one turn of each loop is one step of the definition that the loop computes.
 use Prim.Native.Nat.{ℕ, suc, _+_, _^_, _≤_, _<_}
 use mathlib.Core.Path.{_≡_, refl, ap, _∙_}
-use mathlib.Core.Bool.{Bool, true, false, _&&_}
+use mathlib.Core.Bool.{Bool, true, false}
 use mathlib.Core.List.{List}
 use native.Mathlib.Numerals.{add-one}
 use native.Mathlib.Omega.{arith}
 use borrow.Author.Tests.{eqb-true, eqb-false, eq-eqb, ne-eqb}
 use lib.Bits.{bitAnd}
-use lib.Dec.{eqb, ltb}
+use lib.Dec.{eqb}
 use lib.ListN.{getD}
 use lib.Pow.{pow-mono}
 use Rattle.relations.specs.declared.Joins.{Joins}
 use Rattle.relations.specs.Sets.{bit, put, Sub}
 use Rattle.relations.specs.Growth.{first, second, inside}
 use Rattle.relations.specs.Trees.{isSubquery, countBelow, subqueries}
-use Rattle.relations.specs.Code.{endsOf, tally, endsBelow, mostSets}
+use Rattle.relations.specs.Code.{endsOf, tally, mostSets}
 use Rattle.relations.specs.Table.{Tabled, isConnected}
 use Rattle.relations.proofs.Bits.{bit-le, bit-and, and-of-sub, bit-pow, bit-put, sub-single}
 use Rattle.relations.proofs.Entries.{tested}
@@ -26,11 +26,6 @@ tally-is false n = refl
 subqueries-next : (J : Joins) (n S : ℕ) → countBelow J n (suc S) ≡ tally (isSubquery J n S) (countBelow J n S)
 unfolding countBelow
 subqueries-next J n S = tally-is (isSubquery J n S) (countBelow J n S)
-
--- One join more: the joins whose ends are in range.
-pub ends-more : (J : Joins) (n e f s : ℕ) (d : Bool) → f ≡ first J e → s ≡ second J e → d ≡ endsBelow J n e → (d && (ltb f n && ltb s n)) ≡ endsBelow J n (e + 1)
-unfolding endsBelow
-ends-more J n e f s d q r p = rw (add-one, q, r, p)
 
 -- A join lies in a set where the set masked by its ends is the ends.
 pub ends-in : (J : Joins) (S e : ℕ) → eqb (bitAnd S (endsOf J e)) (endsOf J e) ≡ inside J S e

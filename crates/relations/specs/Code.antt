@@ -1,14 +1,13 @@
 -- What the contracts of the code cite besides the definitions: what each function asks of its joins, and what it answers.
-use Prim.Native.Nat.{ℕ, zero, suc, _+_, _^_, _≤_, _<_}
+use Prim.Native.Nat.{ℕ, suc, _+_, _^_, _≤_, _<_}
 use mathlib.Core.Path.{_≡_}
-use mathlib.Core.Bool.{Bool, true, false, _&&_}
+use mathlib.Core.Bool.{Bool, true, false}
 use mathlib.Core.List.{List}
 use lib.ListN.{length, getD}
-use lib.Dec.{leb, ltb}
 use Rattle.relations.specs.declared.Joins.{Joins}
 use Rattle.relations.specs.Sets.{Sub, put}
 use Rattle.relations.specs.Growth.{first, second, leads}
-use Rattle.relations.specs.Trees.{reaches, side, subqueries}
+use Rattle.relations.specs.Trees.{side}
 
 -- How many sets of relations the code's arrays have room for: those of nine relations.
 abbrev pub mostSets : ℕ
@@ -60,16 +59,7 @@ abbrev pub tally : Bool → ℕ → ℕ
 tally true n = suc n
 tally false n = n
 
--- The ends of the first m joins are below n.
-unfoldable pub endsBelow : Joins → ℕ → ℕ → Bool
-endsBelow J n zero = true
-endsBelow J n (suc m) = endsBelow J n m && (ltb (first J m) n && ltb (second J m) n)
-
 -- n where the test holds, else 0.
 abbrev pub orNone : Bool → ℕ → ℕ
 orNone true n = n
 orNone false n = 0
-
--- The number of subqueries of any joins, and 0 where they are more than eight or make no tree.
-unfoldable pub counted : Joins → ℕ
-counted J = orNone ((leb (J .count) 8 && endsBelow J (J .count + 1) (J .count)) && reaches J (J .count + 1)) (subqueries J (J .count + 1))

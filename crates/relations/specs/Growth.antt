@@ -1,4 +1,4 @@
--- Growth along joins, one relation at a time: document 01's "the part beyond a join is grown one relation at a time".
+-- Growth along joins, one relation at a time: how the part beyond a join comes about (rule 2.5).
 use Prim.Native.Nat.{ℕ, zero, suc, _+_, _<_}
 use mathlib.Core.Path.{_≡_}
 use mathlib.Core.Bool.{Bool, true, false, not, _&&_}

@@ -8,7 +8,7 @@ use lib.Dec.{ltb, eqb}
 use Rattle.relations.specs.declared.Joins.{Joins}
 use Rattle.relations.specs.Sets.{bit, Sub, Apart, all}
 use Rattle.relations.specs.Growth.{first, second, inside, grow, Closed}
-use Rattle.relations.specs.Trees.{isSubquery, Subquery, part, rest, side, joinsIn, Tree}
+use Rattle.relations.specs.Trees.{isSubquery, Subquery, subqueries, part, rest, side, joinsIn, Tree}
 
 -- The set that A grows to within S, skipping x: the least closed set that holds A.
 pub record Grown (J : Joins) (S x A B : ℕ) : Type 0 where
@@ -72,3 +72,7 @@ pub record Subqueries (J : Joins) (n : ℕ) : Type 0 where
 
 abbrev pub SubqueriesLaw : Type 0
 SubqueriesLaw = (J : Joins) (n : ℕ) → Tree J n → Subqueries J n
+
+-- A tree of m joins has at most 2^m + m subqueries, and a star has so many.
+abbrev pub SubqueriesMost : Type 0
+SubqueriesMost = (J : Joins) (n : ℕ) → Tree J n → subqueries J n ≤ 2 ^ J .count + J .count

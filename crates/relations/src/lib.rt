@@ -11,7 +11,6 @@ pub use member::single;
 pub use member::whole;
 pub use member::within;
 pub use subquery::count_subqueries;
-pub use subquery::counted;
 pub use subquery::ends;
 pub use table::is_connected;
 pub use table::join_table;

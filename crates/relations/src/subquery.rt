@@ -4,13 +4,11 @@ use crate::SETS;
 use crate::member::single;
 use crate::member::with;
 use crate::table::is_connected;
-use crate::table::join_table;
-use crate::tree::reaches;
 use crate::widening::wide;
 ghost use Prim.Native.Nat.{_+_, _^_, _≤_, _<_};
 ghost use mathlib.Core.Path.{_≡_};
 ghost use Rattle.relations.specs.Trees.{subqueries};
-ghost use Rattle.relations.specs.Code.{Drawn, EndsOf, tally, endsBelow, counted};
+ghost use Rattle.relations.specs.Code.{Drawn, EndsOf, tally};
 ghost use Rattle.relations.specs.Table.{Tabled};
 
 // One more where the test holds.
@@ -50,41 +48,4 @@ pub fn count_subqueries(joins: Joins, table: &[u32; SETS]) -> usize
         set += 1;
     }
     n
-}
-
-// Each end of each join is one of the relations.
-fn drawn(joins: Joins) -> bool
-    requires { ⌜ joins .count ≤ 8 ⌝ }
-    ensures { λ r. ⌜ r ≡ endsBelow joins (joins .count + 1) (joins .count) ⌝ }
-{
-    let count = joins.count;
-    let n = count + 1;
-    let mut ok = true;
-    let mut e = 0;
-    while e < count {
-        let f = wide(joins.first[e]);
-        let s = wide(joins.second[e]);
-        ok = ok & ((f < n) & (s < n));
-        e += 1;
-    }
-    ok
-}
-
-// The number of subqueries of any joins, and 0 where they are too many or make no tree.
-pub fn counted(joins: Joins) -> usize
-    ensures { λ r. ⌜ r ≡ counted joins ⌝ }
-{
-    if 8 < joins.count {
-        return 0;
-    }
-    if drawn(joins) {
-        if reaches(joins) {
-            let table = join_table(joins);
-            count_subqueries(joins, &table)
-        } else {
-            0
-        }
-    } else {
-        0
-    }
 }

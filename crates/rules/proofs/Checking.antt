@@ -15,7 +15,7 @@ use Rattle.rules.specs.declared.Held.{Held}
 use Rattle.rules.specs.declared.Stepped.{Stepped}
 use Rattle.rules.specs.declared.Outcome.the-variants.{Went, Refused}
 use Rattle.rules.specs.Machine.{Machine, start, went, step}
-use Rattle.rules.specs.Plans.{mostSteps, stepsOf, Verdict, accepted, rejected, after, finish, run, checked}
+use Rattle.rules.specs.Allowed.{mostSteps, stepsOf, Verdict, accepted, rejected, after, finish, run, checked}
 use Rattle.rules.specs.Code.{topFirst, machineOf, outcomeOf, numberOf, ofEnd, stepAt, Room}
 use Rattle.rules.proofs.Combinations.{plus-combines}
 use Rattle.rules.proofs.Outcomes.{parts, step-same}

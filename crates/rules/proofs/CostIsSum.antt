@@ -15,7 +15,7 @@ use Rattle.query.specs.Query.{relationsOf}
 use Rattle.rules.specs.declared.Step.{Step}
 use Rattle.rules.specs.declared.Held.{Held}
 use Rattle.rules.specs.Machine.{Machine, start, Outcome, went, refused, step}
-use Rattle.rules.specs.Plans.{mostSteps, stepsOf, Verdict, accepted, rejected, after, finish, run, checked, stepPrice, spentAfter, spent}
+use Rattle.rules.specs.Allowed.{mostSteps, stepsOf, Verdict, accepted, rejected, after, finish, run, checked, stepPrice, spentAfter, spent}
 use Rattle.rules.specs.Code.{figures}
 use Rattle.rules.specs.Theorems.{CostIsSum}
 use Rattle.rules.proofs.Steps.{Cases, step-case}

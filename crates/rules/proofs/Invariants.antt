@@ -16,7 +16,7 @@ use Rattle.query.specs.Query.{relationsOf}
 use Rattle.rules.specs.declared.Step.{Step}
 use Rattle.rules.specs.declared.Held.{Held}
 use Rattle.rules.specs.Machine.{Machine, start, Outcome, went, refused, step}
-use Rattle.rules.specs.Plans.{mostSteps, stepsOf, Verdict, accepted, rejected, after, finish, run, checked, AllowedAt}
+use Rattle.rules.specs.Allowed.{mostSteps, stepsOf, Verdict, accepted, rejected, after, finish, run, checked, AllowedAt}
 
 -- After i steps, where the last one went, I holds.
 abbrev pub Holds : (ℕ → Machine → Type 0) → ℕ → Outcome → Type 0

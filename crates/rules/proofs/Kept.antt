@@ -10,7 +10,7 @@ use Rattle.query.specs.declared.Query.{Query}
 use Rattle.query.specs.Query.{relationsOf}
 use Rattle.rules.specs.declared.Held.{Held}
 use Rattle.rules.specs.Machine.{bareOf, Machine, sentTo, joinOf}
-use Rattle.rules.specs.Plans.{AllowedAt}
+use Rattle.rules.specs.Allowed.{AllowedAt}
 use Rattle.rules.proofs.Steps.{MayLoad, MaySend, MayJoin, Cases, step-case}
 use Rattle.rules.proofs.Invariants.{Holds, Ends, allowed-ends}
 

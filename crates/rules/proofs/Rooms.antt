@@ -10,7 +10,7 @@ use mir.Val.{Fits}
 use Rattle.relations.specs.Sets.{bit}
 use Rattle.relations.proofs.Counts.{ones-more}
 use Rattle.rules.specs.declared.Held.{Held}
-use Rattle.rules.specs.Plans.{mostSteps}
+use Rattle.rules.specs.Allowed.{mostSteps}
 use Rattle.rules.specs.Code.{Room, topFirst, figures}
 use Rattle.rules.proofs.Stacks.{depth-is}
 use Rattle.rules.proofs.Counting.{more-below}

@@ -12,7 +12,7 @@ use Rattle.query.specs.Query.{relationsOf, sitesOf}
 use Rattle.rules.specs.declared.Step.{Step}
 use Rattle.rules.specs.declared.Held.{Held}
 use Rattle.rules.specs.Machine.{bareOf, Machine, Outcome, went, refused, load, sentTo, sendTop, send, joinOf, joinTop, join, step}
-use Rattle.rules.specs.Plans.{after, finish, run}
+use Rattle.rules.specs.Allowed.{after, finish, run}
 use Rattle.rules.proofs.Steps.{MayLoad, MaySend, MayJoin}
 
 -- Steps one after another, with no end condition.

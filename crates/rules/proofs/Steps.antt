@@ -16,7 +16,7 @@ use Rattle.query.specs.Prices.{linePrice, joinPrice}
 use Rattle.rules.specs.declared.Step.{Step}
 use Rattle.rules.specs.declared.Held.{Held}
 use Rattle.rules.specs.Machine.{Machine, Outcome, went, refused, guard, isSent, bareOf, load, sentTo, sendTop, send, links, spared, joinOf, joinTop, join, step}
-use Rattle.rules.specs.Plans.{sendPrice, joinStepPrice, stepPrice}
+use Rattle.rules.specs.Allowed.{sendPrice, joinStepPrice, stepPrice}
 
 -- What a load of r, a send of h to t and a join of a and b by e ask, so that they go.
 pub record MayLoad (q : Query) (loaded r : ℕ) : Type 0 where

@@ -22,7 +22,7 @@ use Rattle.rules.specs.declared.Stepped.{Stepped}
 use Rattle.rules.specs.declared.Checked.{Checked}
 use Rattle.rules.specs.declared.Checked.the-variants.{Accepted, Rejected}
 use Rattle.rules.specs.Machine.{Machine, Outcome, went, refused, charge}
-use Rattle.rules.specs.Plans.{Verdict, accepted, rejected}
+use Rattle.rules.specs.Allowed.{Verdict, accepted, rejected}
 
 -- What stands in an entry that is not in use.
 abbrev pub nothing : Held
@@ -119,7 +119,7 @@ ofParts l sizes flag fixed rate target =
 abbrev pub ofEnd : ℕ → ℕ → Query
 ofEnd n t = record { sites = noSites 0; relations = noRelations n; joins = noJoins 0; sizes = []; lines = noLines; target = t }
 
--- Sizes, fixed amounts and rates within document 01's limits.
+-- Sizes, fixed amounts and rates within their limits.
 pub record Amounts (sizes fixed rate : List ℕ) : Type 0 where
   pub sizes-most : UpTo 1_000_000_000 sizes
   pub fixed-most : UpTo 1_000_000 fixed
@@ -131,7 +131,7 @@ pub record Lined (flag fixed rate : List ℕ) : Type 0 where
   pub fixeds : length fixed ≡ 64
   pub rates : length rate ≡ 64
 
--- What a step asks of the parts of a query: document 01's limits.
+-- What a step asks of the parts of a query: their limits.
 pub record Fair (l : Listed) (sizes flag fixed rate : List ℕ) : Type 0 where
   pub sites-most : l .sites .count ≤ 8
   pub relations-most : l .relations .count ≤ 9

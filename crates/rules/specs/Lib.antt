@@ -1,5 +1,5 @@
 pub mod Combine
 pub mod Machine
-pub mod Plans
+pub mod Allowed
 pub mod Code
 pub mod Theorems

@@ -1,4 +1,4 @@
--- One step of a plan on the stack of held results: document 01's "Allowed plans" and refusals 8 to 11.
+-- One step of a plan on the stack of held results: rules 4.2 and 4.3, refusals 8 to 11.
 -- The combination of two operands' figures is a parameter: for costs it is the sum.
 use Prim.Native.Nat.{ℕ, _+_, _-_, _^_}
 use mathlib.Core.Bool.{Bool, true, false, not, _&&_, _||_}

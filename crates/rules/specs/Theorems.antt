@@ -4,7 +4,7 @@ use mathlib.Core.Path.{_≡_}
 use mathlib.Core.List.{List, _∷_}
 use Rattle.query.specs.declared.Query.{Query}
 use Rattle.rules.specs.Machine.{start}
-use Rattle.rules.specs.Plans.{AllowedAt, stepsOf, spent}
+use Rattle.rules.specs.Allowed.{AllowedAt, stepsOf, spent}
 
 -- The figure at which a plan is accepted is the sum over its sends and joins.
 abbrev pub CostIsSum : Type 0

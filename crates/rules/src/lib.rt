@@ -1,17 +1,17 @@
-// The plan rules: the stack machine of document 01's "Allowed plans", and the checker that runs a plan on it.
+// The plan rules: the stack machine (rules 4.1 to 4.7), and the checker that runs a plan on it.
 use query::Charge;
 use query::Relations;
 use query::Sites;
 use relations::Joins;
 
 mod combining;
-mod plans;
+mod judging;
 mod prices;
 mod stacking;
 mod stepping;
 
 pub use combining::combine;
-pub use plans::check;
+pub use judging::check;
 
 // How many steps a plan may have, and how many bytes it then has at most: its count, and two a step.
 pub const MOST_STEPS: usize = 34;

@@ -23,7 +23,7 @@ ghost use mathlib.Core.Bool.{_&&_, not};
 ghost use lib.Dec.{eqb};
 ghost use lib.ListN.{length, getD};
 ghost use Rattle.rules.specs.Machine.{load, send, join, step, links, isSent, went, refused};
-ghost use Rattle.rules.specs.Plans.{mostSteps};
+ghost use Rattle.rules.specs.Allowed.{mostSteps};
 ghost use Rattle.rules.specs.Code.{machineOf, stackOf, outcomeOf, Room, Amounts, Lined, Fair, ofRelations, ofLines, ofListed, ofParts};
 
 // A step that goes, to the state after it.

@@ -17,7 +17,7 @@ use Rattle.query.specs.Query.{Valid, relationsOf, sitesOf}
 use Rattle.query.specs.Cost.{Cost, none, some}
 use Rattle.rules.specs.Combine.{Combines}
 use Rattle.tables.specs.Tables.{cheapest}
-use Rattle.tables.specs.Plan.{written}
+use Rattle.tables.specs.Written.{written}
 use Rattle.tables.specs.Work.{cellsNeeded}
 use Rattle.tables.specs.Theorems.{mostCost}
 use Rattle.tables.proofs.Most.{delivered-most}
@@ -96,10 +96,10 @@ module _ (q : Query) (old work : List ℕ) (r : ℕ) (f : FilledFrom _+_ q old w
       let few : r ≤ 8 * mostSets = omega (arith, f .joins, joins-below (q .joins) (relationsOf q) (2 ^ relationsOf q) sets) in
       mul-le-mul (v .sites-most) few
 
-  pub answer-found : (c n : ℕ) (plan left : List ℕ) → cheapest _+_ q ≡ some c →
-      (n ≡ length (written _+_ q)) × (left ≡ written _+_ q ++ drop (length (written _+_ q)) plan) →
-      Answered q old work (Found (record { 0 = c }) n (sitesOf q * r)) plan left
-  answer-found c n plan left number wrote = (rw (number, wrote .0, f .joins), (rw number (wrote .1), (f .long, f .later)))
+  module _ (t : ℕ) (trials-are : t ≡ sitesOf q * r) where
+    pub answer-found : (c n : ℕ) (plan left : List ℕ) → cheapest _+_ q ≡ some c →
+        (n ≡ length (written _+_ q)) × (left ≡ written _+_ q ++ drop (length (written _+_ q)) plan) → Answered q old work (Found (record { 0 = c }) n t) plan left
+    answer-found c n plan left number wrote = (rw (number, wrote .0, trials-are, f .joins), (rw number (wrote .1), (f .long, f .later)))
 
-  pub answer-none : (plan : List ℕ) → cheapest _+_ q ≡ none → Answered q old work (NoRoute (sitesOf q * r)) plan plan
-  answer-none plan e = (rw (e, f .joins), (rw e, (f .long, f .later)))
+    pub answer-none : (plan : List ℕ) → cheapest _+_ q ≡ none → Answered q old work (NoRoute t) plan plan
+    answer-none plan e = (rw (e, trials-are, f .joins), (rw e, (f .long, f .later)))

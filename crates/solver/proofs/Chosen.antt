@@ -17,7 +17,7 @@ use Rattle.query.specs.Choice.{pick}
 use Rattle.query.specs.Query.{relationsOf, sitesOf, mayJoin}
 use Rattle.rules.specs.Combine.{Combines}
 use Rattle.tables.specs.Least.{Best}
-use Rattle.tables.specs.Plan.{bestSite, bestJoin}
+use Rattle.tables.specs.Written.{bestSite, bestJoin}
 use Rattle.board.specs.Board.{joinsAt}
 use Rattle.cells.specs.Trials.{Lent, joinedIn}
 use Rattle.cells.specs.Filling.{LaidOut, Filled}

@@ -10,7 +10,7 @@ use lib.ListN.{length}
 use Rattle.query.specs.declared.Query.{Query}
 use Rattle.query.proofs.Indexed.{one-of-nine}
 use Rattle.rules.specs.Combine.{Combines}
-use Rattle.tables.specs.Plan.{sendIfDue, writtenDelivered, writtenJoined, stepBytes}
+use Rattle.tables.specs.Written.{sendIfDue, writtenDelivered, writtenJoined, stepBytes}
 use Rattle.board.specs.Board.{sideAt, homesAt}
 use Rattle.cells.specs.Trials.{Lent}
 use Rattle.solver.specs.Writing.{Wrote, siteBy, joinBy, ToDeliver, ToJoin}

@@ -15,7 +15,7 @@ use Rattle.query.specs.declared.Query.{Query}
 use Rattle.query.specs.Query.{relationsOf, home}
 use Rattle.rules.specs.Combine.{Combines}
 use Rattle.tables.specs.Tables.{firstPart, otherPart}
-use Rattle.tables.specs.Plan.{sendIfDue, bestSite, bestJoin, joinedSteps, deliveredSteps, writtenDelivered, writtenJoined, stepBytes, joinStep}
+use Rattle.tables.specs.Written.{sendIfDue, bestSite, bestJoin, joinedSteps, deliveredSteps, writtenDelivered, writtenJoined, stepBytes, joinStep}
 use Rattle.tables.proofs.Tables.{ones-some, ByJoin, delivered-found, joined-found}
 use Rattle.tables.proofs.Written.{written-is}
 use Rattle.tables.proofs.StepBytes.{step-bytes-append}

@@ -12,9 +12,9 @@ use Rattle.query.specs.declared.Query.{Query}
 use Rattle.query.specs.Query.{relationsOf}
 use Rattle.query.specs.Cost.{some}
 use Rattle.rules.specs.Combine.{Combines}
-use Rattle.rules.specs.Plans.{longestPlan}
+use Rattle.rules.specs.Allowed.{longestPlan}
 use Rattle.tables.specs.Tables.{cheapest}
-use Rattle.tables.specs.Plan.{writtenDelivered, writtenSteps, stepBytes, written}
+use Rattle.tables.specs.Written.{writtenDelivered, writtenSteps, stepBytes, written}
 use Rattle.tables.proofs.Upper.{written-most}
 use Rattle.tables.proofs.StepBytes.{step-bytes-long}
 use Rattle.board.specs.Board.{joinsAt}

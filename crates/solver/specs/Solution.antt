@@ -7,7 +7,7 @@ use Rattle.query.specs.Cost.{Cost, none, some}
 use Rattle.solver.specs.declared.Solution.{Solution}
 use Rattle.solver.specs.declared.Solution.the-variants.{Found, NoRoute}
 use Rattle.tables.specs.Tables.{trials}
-use Rattle.tables.specs.Plan.{written}
+use Rattle.tables.specs.Written.{written}
 
 -- No route where there is none; else the cost and the written plan's length; the trials in either case.
 abbrev pub solutionOf : Query → Cost → Solution

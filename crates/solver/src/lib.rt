@@ -14,9 +14,9 @@ ghost use Prim.Native.Nat.{_+_, _≤_};
 ghost use mathlib.Core.Path.{_≡_};
 ghost use lib.ListN.{length, drop};
 ghost use Rattle.query.specs.Query.{Valid};
-ghost use Rattle.rules.specs.Plans.{longestPlan};
+ghost use Rattle.rules.specs.Allowed.{longestPlan};
 ghost use Rattle.tables.specs.Tables.{cheapest};
-ghost use Rattle.tables.specs.Plan.{written};
+ghost use Rattle.tables.specs.Written.{written};
 ghost use Rattle.tables.specs.Work.{cellsNeeded};
 ghost use Rattle.solver.specs.Solution.{solutionOf, planAfter};
 

@@ -17,7 +17,7 @@ use Rattle.rules.specs.Code.{Room}
 use Rattle.rules.proofs.Invariants.{Ends, allowed-ends}
 use Rattle.rules.proofs.Counting.{start-room, step-room}
 use Rattle.tables.specs.Tables.{firstPart, otherPart, only, delivered, joined}
-use Rattle.tables.specs.Plan.{bestSite, bestJoin}
+use Rattle.tables.specs.Written.{bestSite, bestJoin}
 use Rattle.tables.specs.Theorems.{mostCost, PlanMostLaw, MostLaw}
 use Rattle.tables.proofs.Tables.{ones-some, ones-most, BySite, ByJoin, delivered-one, delivered-found, joined-found}
 

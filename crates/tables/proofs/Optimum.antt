@@ -3,9 +3,9 @@ use Prim.Native.Nat.{ℕ}
 use mathlib.Core.Path.{_≡_, refl}
 use mathlib.Core.List.{List}
 use Rattle.query.specs.Cost.{Cost, none, some}
-use Rattle.rules.specs.Plans.{AllowedAt}
+use Rattle.rules.specs.Allowed.{AllowedAt}
 use Rattle.tables.specs.Tables.{cheapest}
-use Rattle.tables.specs.Plan.{written}
+use Rattle.tables.specs.Written.{written}
 use Rattle.tables.specs.Theorems.{NoRouteLaw}
 use Rattle.tables.proofs.Lower.{cheapest-law}
 use Rattle.tables.proofs.Upper.{written-law}

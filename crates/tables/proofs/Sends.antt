@@ -26,7 +26,7 @@ use Rattle.rules.specs.declared.Held.{Held}
 use Rattle.rules.specs.Machine.{Machine, went, charge, isSent, spared}
 use Rattle.rules.proofs.Runs.{ran, load-goes, send-goes, ran-then, ran-one}
 use Rattle.tables.specs.Tables.{only, delivered}
-use Rattle.tables.specs.Plan.{loadStep, sendStep, sendIfDue}
+use Rattle.tables.specs.Written.{loadStep, sendStep, sendIfDue}
 use Rattle.tables.proofs.Tables.{delivered-one}
 
 abbrev pub heldAt : ℕ → ℕ → Origin → ℕ → Held

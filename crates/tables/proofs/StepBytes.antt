@@ -4,8 +4,8 @@ use native.Mathlib.Omega.{arith}
 use mathlib.Core.Path.{_≡_, refl, ap}
 use mathlib.Core.List.{List, [], _∷_, _++_}
 use lib.ListN.{length}
-use Rattle.rules.specs.Plans.{mostSteps, longestPlan, stepsOf}
-use Rattle.tables.specs.Plan.{stepBytes, planBytes}
+use Rattle.rules.specs.Allowed.{mostSteps, longestPlan, stepsOf}
+use Rattle.tables.specs.Written.{stepBytes, planBytes}
 use Rattle.rules.specs.declared.Step.{Step}
 
 pub step-bytes-append : (xs ys : List Step) → stepBytes (xs ++ ys) ≡ stepBytes xs ++ stepBytes ys

@@ -19,7 +19,7 @@ use Rattle.query.specs.Query.{Valid, relationsOf, sitesOf, home, mayJoin}
 use Rattle.query.specs.Prices.{carriage, joinPrice, indexed}
 use Rattle.tables.specs.Least.{Best, least}
 use Rattle.tables.specs.Tables.{firstPart, otherPart, only, byJoin, joinedBy, bySite, deliveredBy, deliveredUpTo, delivered, joined}
-use Rattle.tables.specs.Plan.{bestSite, bestJoin}
+use Rattle.tables.specs.Written.{bestSite, bestJoin}
 use Rattle.tables.specs.Theorems.{DeliveredIs}
 use Rattle.tables.proofs.Costs.{Two, both-found, some-same, picked}
 use Rattle.tables.proofs.Least.{least-most, least-found, best-same}

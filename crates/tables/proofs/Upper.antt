@@ -24,11 +24,11 @@ use Rattle.rules.specs.declared.Origin.the-variants.{Joined}
 use Rattle.rules.specs.declared.Held.{Held}
 use Rattle.rules.specs.Combine.{Combines}
 use Rattle.rules.specs.Machine.{Machine, start, Outcome, went, links, spared}
-use Rattle.rules.specs.Plans.{mostSteps, longestPlan, accepted, finish, checked}
+use Rattle.rules.specs.Allowed.{mostSteps, longestPlan, accepted, finish, checked}
 use Rattle.rules.proofs.Links.{links-of}
 use Rattle.rules.proofs.Runs.{join-goes, ran-then, ran-one, ran-ends}
 use Rattle.tables.specs.Tables.{firstPart, otherPart, delivered, cheapest}
-use Rattle.tables.specs.Plan.{joinStep, sendIfDue, bestSite, bestJoin, joinedSteps, deliveredSteps, stepsUpTo, writtenDelivered, writtenSteps, stepBytes, planBytes, written}
+use Rattle.tables.specs.Written.{joinStep, sendIfDue, bestSite, bestJoin, joinedSteps, deliveredSteps, stepsUpTo, writtenDelivered, writtenSteps, stepBytes, planBytes, written}
 use Rattle.tables.specs.Theorems.{WrittenLaw}
 use Rattle.tables.proofs.Tables.{ones-some, ones-most, ByJoin, BySite, joined-found, delivered-found}
 use Rattle.tables.proofs.StepBytes.{step-bytes-long, plan-bytes-most, steps-back}

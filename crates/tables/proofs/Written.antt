@@ -14,7 +14,7 @@ use Rattle.query.specs.declared.Query.{Query}
 use Rattle.query.specs.Cost.{some}
 use Rattle.query.specs.Query.{Valid, relationsOf}
 use Rattle.tables.specs.Tables.{firstPart, otherPart, delivered, joined}
-use Rattle.tables.specs.Plan.{sendIfDue, bestSite, bestJoin, joinedSteps, deliveredSteps, stepsUpTo, writtenDelivered, writtenJoined}
+use Rattle.tables.specs.Written.{sendIfDue, bestSite, bestJoin, joinedSteps, deliveredSteps, stepsUpTo, writtenDelivered, writtenJoined}
 use Rattle.tables.specs.Theorems.{WrittenIs}
 use Rattle.tables.proofs.Tables.{ones-some, ones-most, BySite, ByJoin, delivered-found, joined-found}
 use Rattle.rules.specs.declared.Step.{Step}

@@ -1,6 +1,6 @@
 pub mod Least
 pub mod Tables
-pub mod Plan
+pub mod Written
 pub mod Work
 pub mod Theorems
 pub mod Rows

@@ -1,4 +1,4 @@
--- Document 01's "The pinned table": eleven rows, each with what it must give, as one computed table. `rows-hold` in proofs/ is its one theorem.
+-- The pinned rows (rule 10.3): eleven rows, each with what it must give, as one computed table. `rows-hold` in proofs/ is its one theorem.
 use Prim.Native.Nat.{ℕ, zero, suc, _+_, _-_}
 use mathlib.Core.Bool.{Bool, true, false, _&&_}
 use mathlib.Core.List.{List, [], _∷_, _++_}
@@ -16,7 +16,7 @@ use Rattle.query.specs.Query.{relationsOf}
 use Rattle.query.specs.Terms.{Terms, withLine}
 use Rattle.query.specs.Zeros.{noLines}
 use Rattle.tables.specs.Tables.{cheapest, trials}
-use Rattle.tables.specs.Plan.{bestSite, writtenSteps}
+use Rattle.tables.specs.Written.{bestSite, writtenSteps}
 
 -- These numbers, and zeros up to m of them.
 abbrev pub filled : ℕ → List ℕ → List ℕ

@@ -1,4 +1,4 @@
--- Document 01's "The two tables", equations (8) and (9) of source 001: Delivered and Joined, by each other over fewer relations.
+-- The two tables (rules 5.2 to 5.8), equations (8) and (9) of the paper that rule 1.3 names: Delivered and Joined, by each other over fewer relations.
 -- The combination of two operands' figures is a parameter: for costs it is the sum.
 use Prim.Native.Nat.{ℕ, zero, suc, _+_, _-_, _*_, _^_}
 use lib.Count.{ones}

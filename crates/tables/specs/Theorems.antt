@@ -10,9 +10,9 @@ use Rattle.query.specs.declared.Query.{Query}
 use Rattle.query.specs.Cost.{none, some, AtMost}
 use Rattle.query.specs.Query.{Valid, relationsOf}
 use Rattle.rules.specs.Combine.{Combines}
-use Rattle.rules.specs.Plans.{mostSteps, AllowedAt}
+use Rattle.rules.specs.Allowed.{mostSteps, AllowedAt}
 use Rattle.tables.specs.Tables.{deliveredBy, delivered, joined, cheapest}
-use Rattle.tables.specs.Plan.{deliveredSteps, writtenDelivered, writtenJoined, writtenSteps, written}
+use Rattle.tables.specs.Written.{deliveredSteps, writtenDelivered, writtenJoined, writtenSteps, written}
 
 -- The tables' own equations, without a limit on relations: Delivered by Joined of the same subquery. (Joined's is its definition.)
 abbrev pub DeliveredIs : Type 0

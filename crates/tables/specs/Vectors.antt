@@ -10,7 +10,7 @@ use Rattle.query.specs.declared.Query.{Query}
 use Rattle.query.specs.Cost.{some}
 use Rattle.query.specs.Zeros.{noLines}
 use Rattle.tables.specs.Tables.{cheapest, trials}
-use Rattle.tables.specs.Plan.{written}
+use Rattle.tables.specs.Written.{written}
 use Rattle.tables.specs.Rows.{filled, everyLine, Q, withTarget, withIndex, withMay, withLines, same}
 
 pub record Vector : Type 0 where

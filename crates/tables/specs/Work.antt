@@ -2,6 +2,6 @@
 use Prim.Native.Nat.{ℕ}
 use Rattle.query.specs.declared.Query.{Query}
 
--- How many cells: document 01's 4,096, whatever the query.
+-- How many cells: 4,096, whatever the query (rule 7.5).
 unfoldable pub cellsNeeded : Query → ℕ
 cellsNeeded q = 4_096

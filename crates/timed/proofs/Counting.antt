@@ -13,19 +13,19 @@ use Rattle.planner.specs.Solve.{Answer, found, noRoute, refused, solve}
 use Rattle.planner.specs.Contracts.{stateOf, doneOf, ofLoad, ofSolve}
 use Rattle.planner.proofs.Cells.{ampleCells, needed-enough, solve-enough}
 use Rattle.planner.proofs.Again.{solve-query, solve-again}
-use Rattle.timed.specs.Plans.{plansBy, answerIn, plans}
+use Rattle.timed.specs.Found.{foundBy, answerIn, plansFound}
 
-one-more : (a : Answer) (i : ℕ) → plansBy a i + plansBy a 1 ≡ plansBy a (i + 1)
+one-more : (a : Answer) (i : ℕ) → foundBy a i + foundBy a 1 ≡ foundBy a (i + 1)
 one-more (found c t) i = refl
 one-more (noRoute t) i = refl
 one-more (refused k) i = refl
 
-none-at-first : (a : Answer) → 0 ≡ plansBy a 0
+none-at-first : (a : Answer) → 0 ≡ foundBy a 0
 none-at-first (found c t) = refl
 none-at-first (noRoute t) = refl
 none-at-first (refused k) = refl
 
-pub counted-none : (s : State) → 0 ≡ plansBy (answerIn s) 0
+pub counted-none : (s : State) → 0 ≡ foundBy (answerIn s) 0
 counted-none s = none-at-first (answerIn s)
 
 -- A turn on a planner whose query is still the first one's.
@@ -39,19 +39,19 @@ module _ (first p next : Planner) (a : SolveAnswer) (n : ℕ) (done : doneOf (of
       let f = stateOf first in
       ap (λ (d : Done Answer). d .answer) done ∙ solve-again n s f same ∙ ap (λ (d : Done Answer). d .answer) (solve-enough n f (needed-enough (f .query) n (omega arith)))
 
-  module _ (count r i : ℕ) (many : n ≡ ampleCells) (counted : count ≡ plansBy (answerIn (stateOf first)) i) (now : r ≡ plansBy (ofSolve a) 1) where
-    pub counted-more : count + r ≡ plansBy (answerIn (stateOf first)) (i + 1)
+  module _ (count r i : ℕ) (many : n ≡ ampleCells) (counted : count ≡ foundBy (answerIn (stateOf first)) i) (now : r ≡ foundBy (ofSolve a) 1) where
+    pub counted-more : count + r ≡ foundBy (answerIn (stateOf first)) (i + 1)
     counted-more = rw (counted, now, as-first many) (one-more (answerIn (stateOf first)) i)
 
 -- All turns are done.
-pub counted-all : (a : Answer) (count i times : ℕ) → count ≡ plansBy a i → i ≤ times → times ≤ i → count ≡ plansBy a times
-counted-all a count i times h le ge = h ∙ ap (plansBy a) (omega arith)
+pub counted-all : (a : Answer) (count i times : ℕ) → count ≡ foundBy a i → i ≤ times → times ≤ i → count ≡ foundBy a times
+counted-all a count i times h le ge = h ∙ ap (foundBy a) (omega arith)
 
 -- The query stands that load made of an empty planner.
 pub loaded-plans :
     (empty p : Planner) (a : LoadAnswer) (file : List ℕ) (times r : ℕ) → stateOf empty ≡ nothing → doneOf (ofLoad a) p ≡ load file (stateOf empty) →
-    r ≡ plansBy (answerIn (stateOf p)) times → r ≡ plans file times
-unfolding plans
+    r ≡ foundBy (answerIn (stateOf p)) times → r ≡ plansFound file times
+unfolding plansFound
 loaded-plans empty p a file times r e done h = rw (← e, ← done) h
 
 pub ruleset counting = (counted-none, query-stays, counted-more, counted-all, loaded-plans)

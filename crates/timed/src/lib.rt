@@ -5,11 +5,11 @@ use planner::SolveAnswer;
 ghost use Prim.Native.Nat.{_≤_};
 ghost use mathlib.Core.Path.{_≡_};
 ghost use Rattle.planner.specs.Contracts.{stateOf, ofSolve, Sound};
-ghost use Rattle.timed.specs.Plans.{plansBy, answerIn, plans};
+ghost use Rattle.timed.specs.Found.{foundBy, answerIn, plansFound};
 
 // 1 where a plan was found, else 0.
 fn found(a: SolveAnswer) -> u64
-    ensures { λ r. ⌜ (r ≡ plansBy (ofSolve a) 1) × (r ≤ 1) ⌝ }
+    ensures { λ r. ⌜ (r ≡ foundBy (ofSolve a) 1) × (r ≤ 1) ⌝ }
 {
     match a {
         SolveAnswer::Found { cost: _, trials: _ } => 1,
@@ -21,7 +21,7 @@ fn found(a: SolveAnswer) -> u64
 // Solves so many times over one work area, and counts the plans that were found.
 fn solves(start: Planner, times: u64) -> u64
     requires { ⌜ Sound start ⌝ }
-    ensures { λ r. ⌜ r ≡ plansBy (answerIn (stateOf start)) times ⌝ }
+    ensures { λ r. ⌜ r ≡ foundBy (answerIn (stateOf start)) times ⌝ }
 {
     let mut cells = [0u64; CELLS];
     let mut p = start;
@@ -40,7 +40,7 @@ fn solves(start: Planner, times: u64) -> u64
 // Loads a query once and solves it so many times.
 #[no_mangle]
 pub extern "C" fn fanchuki_solves(query: &[u8], times: u64) -> u64
-    ensures { λ r. ⌜ r ≡ plans (now (query .entry)) times ⌝ }
+    ensures { λ r. ⌜ r ≡ plansFound (now (query .entry)) times ⌝ }
 {
     let d = planner::load(planner::empty(), query);
     solves(d.planner, times)

@@ -32,7 +32,7 @@ filling c = c .before .before .before .before .before
 -- What filling asks and leaves, and what the query costs where the cell is a number.
 fillable : (c : tie.After-fill-arg2) →
     Fillable (query c) (lent (tabled c .before .before .laid-out .result) (query c .sizes) (now (entry c .args .work))) (tabled c .join-table .result)
-fillable c = fillable-here _ _ _ _ (entry c .pre .0) (tabled c .before .before .laid-out .ensures) (tabled c .join-table .ensures) (entry c .pre .1 .0)
+fillable c = fillable-here _ _ _ _ (entry c .pre .0) (tabled c .before .before .laid-out .ensures) (tabled c .join-table .ensures) (omega (arith, entry c .pre .1 .0))
 
 filled : (c : tie.After-fill) → FilledFrom _+_ (query (c .before)) (now (entry (c .before) .args .work)) (c .fill .last .1 .1 .1 .0) (c .fill .result)
 filled c = c .fill .ensures _ (fillable (c .before))
@@ -42,7 +42,7 @@ number : (c : tie.Then1) →
 number c =
     let f = filling (c .before) in
     cheapest-number _ (entry (f .before) .pre .0) _ (c .before .before .before .whole .ensures) _ (c .before .before .place .ensures) _+_ plus-combines _
-    (filled f .cells) (c .if1 .taken)
+    (filled f .cells) (omega (arith, c .if1 .taken))
 
 pub solve-spec : {M : Type 1} → statement M
 solve-spec =
@@ -64,8 +64,8 @@ solve-spec =
     (λ c. search needs)
     (λ c. let w = c .before .before in let t : tie.Then1 = w .before .before .before .before .before .before in let f = filling (t .before) in
     let l = fillable (f .before) .laid in
-    answer-found _ _ _ _ (filled f) _ _ _ _ (number t) (w .write-plan .ensures _ (laid-here _ _ _ (l .valid) (l .board)) (filled f .cells) refl _ (number t)))
+    answer-found _ _ _ _ (filled f) _ (search needs) _ _ _ _ (number t) (w .write-plan .ensures _ (laid-here _ _ _ (l .valid) (l .board)) (filled f .cells) refl _ (number t)))
     (λ c. search needs)
     (λ c. let p = c .before .before in let f = filling (c .before) in
-    answer-none _ _ _ _ (filled f) _
+    answer-none _ _ _ _ (filled f) _ (search needs) _
     (cheapest-none _ (entry (f .before) .pre .0) _ (p .before .whole .ensures) _ (p .place .ensures) _+_ plus-combines _ (filled f .cells) (c .if1 .left))))

@@ -5,14 +5,14 @@ use lib.ListN.{length}
 use borrow.Author.Needs.{needs}
 use Rattle.planner.specs.Contracts.{stateOf, Sound}
 use Rattle.planner.proofs.Cells.{ampleCells}
-use Rattle.timed.specs.Plans.{plansBy, answerIn}
+use Rattle.timed.specs.Found.{foundBy, answerIn}
 use Rattle.timed.proofs.Counting.{counting}
 use Rattle.timed.proofs.solves.Statement.{statement}
 use Rattle.timed.proofs.solves.Tie as tie
 
 abbrev Inv-loop : tie.InvT-loop
 Inv-loop times cells₀ p₀ plans₀ i₀ cells p plans i =
-    (i ≤ times) × (plans ≤ i) × (length cells ≡ ampleCells) × Sound p × (stateOf p .query ≡ stateOf p₀ .query) × (plans ≡ plansBy (answerIn (stateOf p₀)) i)
+    (i ≤ times) × (plans ≤ i) × (length cells ≡ ampleCells) × Sound p × (stateOf p .query ≡ stateOf p₀ .query) × (plans ≡ foundBy (answerIn (stateOf p₀)) i)
 
 abbrev μ-loop : tie.MeasureT-loop
 μ-loop times cells₀ p₀ plans₀ i₀ cells p plans i = times - i

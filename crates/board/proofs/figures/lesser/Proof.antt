@@ -1,4 +1,4 @@
--- `cells::lesser` meets its contract: the kept figure and the difference where it is negative make the lesser one. Assumes nothing.
+-- `figures::lesser` meets its contract: the kept figure and the difference where it is negative make the lesser one. Assumes nothing.
 use mathlib.Core.Logic.{_⊎_, inl, inr, ⊎-elim}
 use mathlib.Core.Path.{_≡_}
 use mathlib.Core.Bool.{true, false}
@@ -11,7 +11,7 @@ use Rattle.board.proofs.figures.lesser.Tie as tie
 
 came : (c : tie.Joined1) → let d = minus (c .before .args .new) (c .before .args .kept) in
     ((negative d ≡ true) × (c .if1 .less ≡ ofZ w64 d)) ⊎ ((negative d ≡ false) × (c .if1 .less ≡ 0))
-came c = ⊎-elim (λ w. inl (w .0 .taken, w .1)) (λ w. inr (w .0 .left, w .1)) (c .if1 .came)
+came c = ⊎-elim (λ w. inl (search needs, w .1)) (λ w. inr (search needs, w .1)) (c .if1 .came)
 
 pub lesser-spec : {M : Type 1} → statement M
 lesser-spec =

@@ -17,4 +17,4 @@ lay-joining-spec =
     (λ c κs. search needs)
     (λ c κs. search needs)
     (λ c. let g = c .before in let three = g .before .before .before .before in let f = three .before in let two = f .before .before .before .before .before in let one = two .before .before .before in
-    joining-laid _ _ _ _ _ _ _ _ _ _ _ _ (one .before .before .before .pre) (one .before .widened .ensures) (one .lay .ensures) (two .before .widened2 .ensures) (two .lay2 .ensures) (f .fixed-row .ensures) (three .lay3 .ensures) (g .rate-row .ensures) (c .lay4 .ensures)))
+    joining-laid _ _ _ _ _ (one .before .widened .result) (two .before .widened2 .result) _ _ _ _ _ (one .before .before .before .pre) (one .lay .ensures) (two .lay2 .ensures) (three .lay3 .ensures) (c .lay4 .ensures) (search needs) (search needs) (f .fixed-row .ensures) (g .rate-row .ensures)))

@@ -33,5 +33,5 @@ lay-relations-spec =
     (λ c. search needs)
     (λ c. search needs)
     (λ c. let s = c .before .before in let o = s .before .before .before in let w = o .before in let l = w .before .before .before in
-    (search needs, relations-more _ _ _ _ _ _ _ _ _ _ (l .loop .inv .1) (search needs) (l .before .pre .0 .0) (w .wide .ensures .0) (o .single .ensures) (s .spared-at .ensures) (c .before .counted-row .ensures) (c .lay .ensures)))
+    (search needs, relations-more _ _ _ _ _ _ _ _ _ _ _ (l .loop .inv .1) (search needs) (l .before .pre .0 .0) (w .wide .ensures .0) (o .single .ensures) (s .spared-at .ensures) (c .before .counted-row .ensures) (c .lay .ensures) (search needs)))
     (λ c. search (needs, relations-all)))

@@ -23,7 +23,7 @@ delivered-row-spec =
     Inv-loop
     μ-loop
     (λ c κs. search needs)
-    (λ c. (search needs, (least-none _, none-marked)))
+    (λ c. (search needs, (least-none _ _ _ (search needs) (search needs), none-marked)))
     (λ c. let a = c .before .before .before in omega (arith, a .before .pre .1 .few, a .sites-of .ensures))
     (λ c. let a = c .before .before .before in omega (arith, a .before .pre .1 .few, a .sites-of .ensures))
     (λ c κs. let i = c .before .before .before in let s = i .before .before in let e = i .before .sites-of .ensures in

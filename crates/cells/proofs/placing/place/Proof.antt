@@ -5,4 +5,4 @@ use Rattle.cells.proofs.placing.place.Statement.{statement}
 use Rattle.cells.proofs.placing.place.Tie as tie
 
 pub place-spec : {M : Type 1} → statement M
-place-spec = tie.close (tie.spec (λ c. search needs) (λ c. search needs) (λ c. place-is _ _))
+place-spec = tie.close (tie.spec (λ c. search needs) (λ c. search needs) (λ c. search (needs, place-is)))

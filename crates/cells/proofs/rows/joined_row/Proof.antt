@@ -20,7 +20,7 @@ joined-row-spec =
     (tie.spec
     Inv-loop
     μ-loop
-    (λ c. joined-none _ _ _ _ (c .before .pre .few))
+    (λ c. joined-none _ _ _ _ _ (omega arith) (c .before .pre .few))
     (λ c. place-fits _)
     (λ c κs. next-low _ _ _ _ _ _ (c .before .loop .inv) (c .loop-test .taken))
     (λ c. and-le-l _ _)

@@ -27,6 +27,6 @@ trial-spec =
     (λ c κs. omega (arith, both c))
     (λ c. let m = c .before .before .before in omega (arith, both m, c .before .before .combine .ensures, m .before .before .before .before .price-at .ensures .1))
     (λ c. let m = c .before .before .before in let p = m .before .before .before in (
-      trial-is _ _ _ _ _ _ (p .place .ensures) (m .before .before .place2 .ensures) _ _ (c .before .before .combine .ensures) (p .before .price-at .ensures .0),
+      trial-is _ _ _ _ _ _ (p .place .ensures) (m .before .before .place2 .ensures) _ _ (search needs) (p .before .price-at .ensures .0),
       omega (arith, both m, c .before .before .combine .ensures, p .before .price-at .ensures .1),
     )))

@@ -1,0 +1,89 @@
+"""Queries that are solved, their plans read and checked. Each case states what load and solve print, and the plan."""
+from script.queries import LONGEST, SITES, alone, chain, closed, every, file, q, star
+from script.records import check, load, read, solve, steps, wrote
+
+FREE = (1, 0, 0)
+
+
+def found(query, loaded, solved, plan):
+    """The read lends a byte more than the plan has."""
+    cost, written = solved.split()[1], steps(plan)
+    yield load(query), [loaded]
+    yield solve(4096), [solved, "cells OK"]
+    yield read(len(written) + 1), [wrote(written, cost, len(written) + 1)]
+    yield check(written), [f"check {cost}"]
+
+
+def no_route(query, loaded, solved):
+    yield load(query), [loaded]
+    yield solve(4096), [solved, "cells OK"]
+    yield read(69), ["refused 22", "output OK"]
+
+
+def pinned():
+    """Rows 1 to 9 of rule 10.3."""
+    yield from found(q(), "load 2 3", "solve 24 3", "l0 l1 s0 j0")
+    yield from found(q(target=2), "load 2 3", "solve 28 3", "l0 l1 s0 j0 s2")
+    yield from found(q(relations=[(0, 1), (1, 0)]), "load 2 3", "solve 14 3", "l0 l1 s0 j0")
+    yield from found(q(sites=[(0, 2, 1)] + SITES[1:]), "load 2 3", "solve 34 3", "l0 s1 l1 j0 s0")
+    yield from found(q(line=closed((1, 0))), "load 2 3", "solve 39 3", "l0 s2 l1 s2 j0 s0")
+    yield from no_route(q(line=closed((1, 0), (2, 0))), "load 2 3", "no-route 3")
+    yield from found(q(line=every(*FREE)), "load 2 3", "solve 19 3", "l0 l1 s0 j0")
+    yield from found(alone(0), "load 1 1", "solve 0 0", "l0")
+    yield from found(alone(1), "load 1 1", "solve 11 0", "l0 s1")
+
+
+def larger():
+    # source document 000's chain of five
+    five = {1: 100, 2: 400, 3: 80, 4: 700, 6: 311, 7: 62, 8: 1100, 12: 481, 14: 214, 15: 43, 16: 1600, 24: 733, 28: 321, 30: 143, 31: 29}
+    query = file([FREE] * 6, [(r, 0) for r in range(5)], chain(5), five.get, every(1, 10, 1), 5)
+    yield from found(query, "load 5 15", "solve 364 120", "l0 s1 l1 j0 s2 l2 j1 s3 l3 j2 s4 l4 j3 s5")
+    # a plan whose last join has two joined operands
+    four = {1: 100, 2: 100, 4: 100, 8: 100, 3: 1, 12: 1, 6: 100, 7: 1000, 14: 1000, 15: 1000}
+    query = file([FREE] * 5, [(r, 0) for r in range(4)], chain(4), four.get, every(1, 0, 1), 4)
+    yield from found(query, "load 4 10", "solve 202 50", "l0 l1 s0 j0 s4 l2 l3 s2 j2 s4 j1")
+    # ties: the lowest site, and the lowest join
+    query = file([FREE] * 2, [(0, 0)] * 2, chain(2), lambda subquery: 1, every(*FREE), 1)
+    yield from found(query, "load 2 3", "solve 0 2", "l0 l1 j0 s1")
+    query = file([FREE], [(0, 0)] * 3, chain(3), lambda subquery: 1, None, 0)
+    yield from found(query, "load 3 6", "solve 0 4", "l0 l1 l2 j1 j0")
+    # the longest file
+    yield from found(LONGEST, "load 9 264", "solve 1780452962523 8192", "l8 l6 l4 s0 l2 s0 l0 l1 s0 j0 j1 s3 l3 j2 s0 j3 l5 s0 j4 s6 j5 s0 l7 s0 j6 j7 s7")
+
+
+CHAINS = [
+    ("load 1 1", "solve 2 0", "l0 s1"),
+    ("load 2 3", "solve 2 2", "l0 s1 l1 j0"),
+    ("load 3 6", "solve 4 8", "l0 l1 s0 l2 j1 j0 s1"),
+    ("load 4 10", "solve 4 20", "l0 s1 l1 l2 s1 l3 j2 j1 j0"),
+    ("load 5 15", "solve 6 40", "l0 l1 s0 l2 l3 s0 l4 j3 j2 j1 j0 s1"),
+    ("load 6 21", "solve 6 70", "l0 s1 l1 l2 s1 l3 l4 s1 l5 j4 j3 j2 j1 j0"),
+    ("load 7 28", "solve 8 112", "l0 l1 s0 l2 l3 s0 l4 l5 s0 l6 j5 j4 j3 j2 j1 j0 s1"),
+    ("load 8 36", "solve 8 168", "l0 s1 l1 l2 s1 l3 l4 s1 l5 l6 s1 l7 j6 j5 j4 j3 j2 j1 j0"),
+    ("load 9 45", "solve 10 240", "l0 l1 s0 l2 l3 s0 l4 l5 s0 l6 l7 s0 l8 j7 j6 j5 j4 j3 j2 j1 j0 s1"),
+]
+
+STARS = [
+    ("load 1 1", "solve 2 0", "l0 s1"),
+    ("load 2 3", "solve 2 2", "l0 s1 l1 j0"),
+    ("load 3 6", "solve 2 8", "l0 l2 j1 s1 l1 j0"),
+    ("load 4 11", "solve 2 24", "l0 l2 j1 s1 l3 j2 l1 j0"),
+    ("load 5 20", "solve 2 64", "l0 l4 j3 l2 j1 s1 l3 j2 l1 j0"),
+    ("load 6 37", "solve 2 160", "l0 l4 j3 l2 j1 s1 l5 j4 l3 j2 l1 j0"),
+    ("load 7 70", "solve 2 384", "l0 l6 j5 l4 j3 l2 j1 s1 l5 j4 l3 j2 l1 j0"),
+    ("load 8 135", "solve 2 896", "l0 l6 j5 l4 j3 l2 j1 s1 l7 j6 l5 j4 l3 j2 l1 j0"),
+    ("load 9 264", "solve 2 2048", "l0 l8 j7 l6 j5 l4 j3 l2 j1 s1 l7 j6 l5 j4 l3 j2 l1 j0"),
+]
+
+
+def shapes():
+    """Chains and stars of one to nine relations over two sites: their subqueries and trials."""
+    for joins, cases in ((chain, CHAINS), (star, STARS)):
+        for n, case in enumerate(cases, 1):
+            yield from found(file([FREE] * 2, [(r % 2, r % 2) for r in range(n)], joins(n), lambda subquery: 1, every(1, 1, 1), 1), *case)
+
+
+def script():
+    yield from pinned()
+    yield from larger()
+    yield from shapes()

@@ -1,0 +1,145 @@
+// One record of a script: the call that it names, and the line that it prints.
+use crate::answers;
+use crate::input;
+use crate::input::Got;
+use crate::lent;
+use planner::Planner;
+ghost use Rattle.planner.specs.Contracts.{Sound};
+
+// The planner after a record, whether the run goes on, and whether the answer was written.
+pub(crate) struct After {
+    pub planner: Planner,
+    pub more: bool,
+    pub written: bool,
+}
+
+// A record that is cut or unknown ends the run.
+fn end(p: Planner) -> After
+    requires { ⌜ Sound p ⌝ }
+    ensures { λ r. ⌜ Sound (r .planner) ⌝ }
+{
+    After {
+        planner: p,
+        more: false,
+        written: true,
+    }
+}
+
+// The run goes on where the answer was written.
+fn answered(p: Planner, written: bool) -> After
+    requires { ⌜ Sound p ⌝ }
+    ensures { λ r. ⌜ Sound (r .planner) ⌝ }
+{
+    After {
+        planner: p,
+        more: written,
+        written,
+    }
+}
+
+// The next record.
+pub(crate) fn next(p: Planner) -> After
+    requires { ⌜ Sound p ⌝ }
+    ensures { λ r. ⌜ Sound (r .planner) ⌝ }
+{
+    let Got::Number(kind) = input::one_byte() else {
+        return end(p);
+    };
+    match kind {
+        1 => load(p),
+        2 => link(p),
+        3 => solve(p),
+        4 => read(p),
+        5 => check(p),
+        _ => end(p),
+    }
+}
+
+// 1 load: u16 length, bytes.
+fn load(p: Planner) -> After
+    requires { ⌜ Sound p ⌝ }
+    ensures { λ r. ⌜ Sound (r .planner) ⌝ }
+{
+    let Got::Number(length) = input::two_bytes() else {
+        return end(p);
+    };
+    let mut bytes = io::large_buffer();
+    let n = input::at_most(length, 65536);
+    if !input::fill(&mut bytes, n) {
+        return end(p);
+    }
+    let d = planner::load(p, input::front(&bytes, n));
+    let a = d.answer;
+    answered(d.planner, answers::of_load(a))
+}
+
+// 2 link: sender, receiver, open, fixed, rate as five u64.
+fn link(p: Planner) -> After
+    requires { ⌜ Sound p ⌝ }
+    ensures { λ r. ⌜ Sound (r .planner) ⌝ }
+{
+    let Got::Number(sender) = input::eight_bytes() else {
+        return end(p);
+    };
+    let Got::Number(receiver) = input::eight_bytes() else {
+        return end(p);
+    };
+    let Got::Number(opened) = input::eight_bytes() else {
+        return end(p);
+    };
+    let Got::Number(fixed) = input::eight_bytes() else {
+        return end(p);
+    };
+    let Got::Number(rate) = input::eight_bytes() else {
+        return end(p);
+    };
+    let done = planner::link(p, sender, receiver, opened, fixed, rate);
+    let answer = done.answer;
+    answered(done.planner, answers::of_link(answer))
+}
+
+// 3 solve: u32 number of cells lent, at most 8,192.
+fn solve(p: Planner) -> After
+    requires { ⌜ Sound p ⌝ }
+    ensures { λ r. ⌜ Sound (r .planner) ⌝ }
+{
+    let Got::Number(number) = input::four_bytes() else {
+        return end(p);
+    };
+    let n = input::at_most(number, 8192);
+    let mut cells = lent::cells();
+    let d = planner::solve(p, lent::front_cells(&mut cells, n));
+    let a = d.answer;
+    answered(d.planner, answers::of_solve(a, &cells, n))
+}
+
+// 4 read: u32 length of the output lent, at most 4,096.
+fn read(p: Planner) -> After
+    requires { ⌜ Sound p ⌝ }
+    ensures { λ r. ⌜ Sound (r .planner) ⌝ }
+{
+    let Got::Number(number) = input::four_bytes() else {
+        return end(p);
+    };
+    let n = input::at_most(number, 4096);
+    let mut bytes = lent::output();
+    let a = planner::read(p, lent::front_output(&mut bytes, n));
+    answered(p, answers::of_read(a, &bytes, n))
+}
+
+// 5 check: u16 length, plan bytes.
+fn check(p: Planner) -> After
+    requires { ⌜ Sound p ⌝ }
+    ensures { λ r. ⌜ Sound (r .planner) ⌝ }
+{
+    let Got::Number(length) = input::two_bytes() else {
+        return end(p);
+    };
+    let mut bytes = io::large_buffer();
+    let n = input::at_most(length, 65536);
+    if !input::fill(&mut bytes, n) {
+        return end(p);
+    }
+    let a = planner::check(p, input::front(&bytes, n));
+    answered(p, answers::of_check(a))
+}

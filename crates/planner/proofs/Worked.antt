@@ -1,0 +1,61 @@
+-- The calls on Q, by computation.
+use mathlib.Core.Path.{refl}
+use lib.Count.{ones, onesIn, trailingZeros}
+use Rattle.relations.specs.Sets.{bit, put}
+use Rattle.relations.specs.Growth.{inside, leads, step, grow}
+use Rattle.relations.specs.Trees.{isSubquery, countBelow, reaches, part}
+use Rattle.decoder.specs.Fields.{number, field, items, storing, section}
+use Rattle.decoder.specs.Decode.{terms, two, sitesSection, relationsSection, joinsSection, sized, sizesSection, line, sender, linesSection, deliverySection, decode}
+use Rattle.query.specs.Query.{home, index, mayJoin, joinFixed, joinRate, isOpen, lineFixed, lineRate, size}
+use Rattle.query.specs.Prices.{linePrice, carriage, reads, joinPrice, indexed}
+use Rattle.query.specs.Prices as prices
+use Rattle.rules.specs.Machine as machine
+use Rattle.rules.specs.Allowed as plans
+use Rattle.tables.specs.Least.{best}
+use Rattle.tables.specs.Tables.{byJoin, joinedBy, deliveredBy, deliveredUpTo, delivered, joined, joinsBelow}
+use Rattle.tables.specs.Written.{bestSite, bestJoin, joinedSteps, deliveredSteps, stepsUpTo, writtenDelivered}
+use Rattle.tables.specs.Work.{cellsNeeded}
+use Rattle.planner.specs.Load.{load}
+use Rattle.planner.specs.Link.{sitesListed, termsInRange, link}
+use Rattle.planner.specs.Solve.{solve}
+use Rattle.planner.specs.Read.{read}
+use Rattle.planner.specs.Check.{check}
+use Rattle.planner.specs.Worked.{Worked}
+
+pub worked : Worked
+unfolding ones onesIn trailingZeros bit put inside leads step grow isSubquery countBelow reaches part number field items storing section terms two sitesSection relationsSection joinsSection sized sizesSection line sender linesSection deliverySection decode home index mayJoin joinFixed joinRate isOpen lineFixed lineRate size linePrice carriage prices.read reads joinPrice indexed machine.load machine.sendTop machine.send machine.links machine.spared machine.joinTop machine.join machine.step plans.finish plans.run plans.checked best byJoin joinedBy deliveredBy deliveredUpTo delivered joined joinsBelow bestSite bestJoin joinedSteps deliveredSteps stepsUpTo writtenDelivered cellsNeeded load sitesListed termsInRange link solve read check
+worked = record {
+  q-length = refl;
+  q-decoded = refl;
+  load-q = refl;
+  solve-q = refl;
+  read-q = refl;
+  check-q = refl;
+  link-row5 = refl;
+  check-row5 = refl;
+  solve-row5 = refl;
+  link-row6 = refl;
+  solve-row6 = refl;
+  load-again = refl;
+  link-20 = refl;
+  solve-20 = refl;
+  read-20 = refl;
+  check-20 = refl;
+  solve-21 = refl;
+  read-22 = refl;
+  read-23 = refl;
+  load-1 = refl;
+  load-2 = refl;
+  load-3 = refl;
+  load-4 = refl;
+  load-5 = refl;
+  link-6 = refl;
+  link-6-twice = refl;
+  link-3 = refl;
+  check-7 = refl;
+  check-8 = refl;
+  check-9 = refl;
+  check-10 = refl;
+  check-11 = refl;
+  check-12 = refl;
+}
