@@ -8,7 +8,7 @@
 
 int main(int argc, char **argv)
 {
-    static const char *const kind[] = {"?", "load", "send", "join"};
+    static const char *const kind[] = {[FANCHUKI_LOAD] = "load", [FANCHUKI_SEND] = "send", [FANCHUKI_JOIN] = "join"};
     uint8_t query[FANCHUKI_LONGEST_QUERY + 1]; /* one byte more tells a longer file */
     uint8_t plan[FANCHUKI_LONGEST_PLAN];
 
@@ -25,7 +25,7 @@ int main(int argc, char **argv)
         printf("refused %d\n", (int)(answer - FANCHUKI_REFUSED));
         return 1;
     }
-    if (answer == 0) {
+    if (answer == FANCHUKI_NO_ROUTE) {
         printf("no route\n");
         return 1;
     }

@@ -1,7 +1,7 @@
 /* Fanchuki: the cheapest plan for a query of up to nine relations joined across up to eight sites.
  *
- * The file and plan layouts, and every refusal's number, are in docs/FORMAT.md. The function is proved: what it returns
- * and what it writes is its contract, for every query and every output. Link with libfanchuki.a (`rt staticlib fanchuki`).
+ * docs/FORMAT.md has the query file and the plan byte by byte. The function is proved: what it returns and what it writes
+ * is its contract, for every query and every output. Link with libfanchuki.a (`rt staticlib fanchuki`; x86-64).
  */
 #ifndef FANCHUKI_H
 #define FANCHUKI_H
@@ -17,23 +17,58 @@ extern "C" {
 #define FANCHUKI_LONGEST_QUERY 1674
 #define FANCHUKI_LONGEST_PLAN 69
 
-/* What the call needs of the thread's stack, in bytes. */
-#define FANCHUKI_STACK 65536
+/* The stack that the call needs, in bytes, its work area of 32 KB among them. Measured, not proved: tests/c/stack.c measures
+ * it and holds this figure to it from both sides. A program that binds memcpy and memset at their first call (linked without
+ * -z now) needs some kilobytes more that once, for the dynamic linker. */
+#define FANCHUKI_STACK 57344
+
+/* A plan is its number of steps, one byte, then two bytes a step: the kind and its argument. */
+enum fanchuki_kind {
+    FANCHUKI_LOAD = 1, /* a relation, at its home */
+    FANCHUKI_SEND = 2, /* to a site, what was made last */
+    FANCHUKI_JOIN = 3  /* by a join, the last two */
+};
+
+/* The answer where no plan is allowed. */
+#define FANCHUKI_NO_ROUTE 0
 
 /* An answer from here on is a refusal: subtract this to have its number. */
 #define FANCHUKI_REFUSED 256
 
+enum fanchuki_refusal {
+    /* the query file is refused */
+    FANCHUKI_CUT = 1,          /* a field is cut */
+    FANCHUKI_WRONG_COUNT = 2,  /* a count is outside its limit or not the stated one */
+    FANCHUKI_OUT_OF_RANGE = 3, /* a field is out of range */
+    FANCHUKI_NOT_REACHED = 4,  /* the joins don't reach all relations from relation 0 */
+    FANCHUKI_BYTES_FOLLOW = 5, /* bytes follow Delivery */
+    /* the output is refused */
+    FANCHUKI_SHORT_OUTPUT = 23, /* it is shorter than the plan */
+
+    /* never answered by fanchuki_plan: the refusals of link, solve, read and check, as the program `calls` lists them */
+    FANCHUKI_LINK_SITES = 6,        /* a link names an unlisted site, or one site twice */
+    FANCHUKI_PLAN_LENGTH = 7,       /* a plan's count is outside 1 to 34 or its length isn't 1 + 2 x count */
+    FANCHUKI_UNKNOWN_STEP = 8,      /* unknown kind, or argument not in the query */
+    FANCHUKI_LOADED_BEFORE = 9,     /* the relation was loaded before */
+    FANCHUKI_SEND_NOT_ALLOWED = 10, /* send not allowed, or nothing held */
+    FANCHUKI_JOIN_NOT_ALLOWED = 11, /* join not allowed, or fewer than two held */
+    FANCHUKI_WRONG_END = 12,        /* not one result with every relation at the query site */
+    FANCHUKI_NOTHING_LOADED = 20,   /* nothing loaded */
+    FANCHUKI_FEW_CELLS = 21,        /* work area below 4,096 cells */
+    FANCHUKI_NO_KEPT_PLAN = 22      /* no kept plan */
+};
+
 /* Loads the query file, solves it and writes the cheapest plan to the front of the output.
  *
- * Returns the plan's length in bytes (3 to 69), 0 where no plan is allowed (no route), or FANCHUKI_REFUSED plus the
- * refusal's number: 1 to 5 where the query file is refused, 23 where the output is shorter than the plan.
+ * Returns the plan's length in bytes (3 to FANCHUKI_LONGEST_PLAN), FANCHUKI_NO_ROUTE, or FANCHUKI_REFUSED plus the refusal's
+ * number: FANCHUKI_CUT to FANCHUKI_BYTES_FOLLOW, or FANCHUKI_SHORT_OUTPUT. No route comes before a short output.
  *
- * Only the plan's bytes are written: the rest of the output stays as it was, and all of it does on 0 and on a refusal.
- * Nothing is kept between calls and nothing is allocated; calls on several threads do not meet. The two areas must not
- * overlap. A length of 0 may come with any pointer, a null pointer too.
+ * Only the plan's bytes are written: the rest of the output stays as it was, and all of it does on no route and on a refusal.
+ * The query is only read. Nothing is kept between calls and nothing is allocated; calls on several threads do not meet, and
+ * may share a query.
  *
- * The call takes less than FANCHUKI_STACK bytes of stack, the work area of 32 KB among them. That is measured, not proved:
- * tests/c/stack.c holds it.
+ * Both areas may begin at any address: they are bytes. They must not overlap, so the plan cannot be written over its query.
+ * A length of 0 may come with any pointer, a null pointer too.
  */
 uint64_t fanchuki_plan(const uint8_t *query, size_t query_length, uint8_t *output, size_t output_length);
 

@@ -1,37 +1,58 @@
 #!/usr/bin/env bash
-# The tests from outside: the built programs and the archive held to the reference, and the C boundary under sanitizers.
+# The tests from outside: the C call at its boundary, the programs' exit codes, programs and archive held to the reference.
+#   outside.sh [seed=N] [files=N] [lists=N]   so many random files and lists of calls in each comparison, from that seed
 set -euo pipefail
 cd "$(dirname "$0")/.."
-out=target/outside
-reference=reference/target/release
-
-rt check plan calls
-rt staticlib fanchuki
-mkdir -p "$out"
-
-echo "== the C example"
-gcc -O2 -Wall -Wextra -Werror -Iinclude examples/plan.c -Ltarget/staticlib -lfanchuki -o "$out/plan-c"
-"$out/plan-c" examples/q.query | diff - <(tail -n +2 crates/plan/stdout)
-
-echo "== the C boundary"
-gcc -g -Wall -Wextra -Werror -fsanitize=address,undefined -fno-sanitize-recover=all -Iinclude tests/c/boundary.c -Ltarget/staticlib -lfanchuki -o "$out/boundary"
-"$out/boundary" examples/q.query
-
-echo "== the stack of the C call"
-gcc -O2 -Wall -Wextra -Werror -pthread -Iinclude tests/c/stack.c -Ltarget/staticlib -lfanchuki -o "$out/stack"
-"$out/stack" examples/q.query examples/chain-of-five.query examples/star-of-nine.query
-
-echo "== the reference's own tests"
-cargo test --quiet --release --offline --manifest-path reference/Cargo.toml >"$out/reference.txt" 2>&1 || { cat "$out/reference.txt"; exit 1; }
-grep -c '^test result: ok' "$out/reference.txt"
-
-echo "== the programs and the archive beside the reference"
-cargo build --quiet --release --offline --manifest-path reference/Cargo.toml
-for name in q chain-of-five star-of-nine; do
-    "$reference/querytext" pack <"examples/$name.txt" | cmp - "examples/$name.query"
+. tests/stage.sh
+seed=1 files='' lists=''
+for word in "$@"; do
+    case $word in
+    seed=[0-9]* | files=[1-9]* | lists=[1-9]*) declare "$word" ;;
+    *) echo "usage: outside.sh [seed=N] [files=N] [lists=N]" >&2; exit 2 ;;
+    esac
 done
-"$reference/diff_plan" target/bin/plan "$@"
-"$reference/diff_calls" target/bin/calls "$@"
-FANCHUKI_ARCHIVE=$PWD/target/staticlib/libfanchuki.a cargo run --quiet --release --offline --manifest-path reference/diff_c/Cargo.toml -- "$@"
-"$reference/tell_apart" target/bin/plan "$@" >"$out/told-apart.txt"
-echo "outside: ok"
+
+# By cargo run, which runs what it has just built, wherever cargo is told to put it.
+reference() { # PROGRAM WORDS..
+    cargo run --quiet --release --offline --manifest-path reference/Cargo.toml --bin "$1" -- "${@:2}"
+}
+
+over_the_archive() { # PROGRAM WORDS..
+    FANCHUKI_ARCHIVE=$PWD/target/staticlib/libfanchuki.a \
+        cargo run --quiet --release --offline --manifest-path reference/diff_c/Cargo.toml --bin "$1" -- "${@:2}"
+}
+
+own_tests() {
+    cargo test --quiet --release --offline --manifest-path reference/Cargo.toml | tee target/outside/tests.txt
+    awk '/^test result: ok/ { passed += $4; left_out += $8 + $12 }
+        END { print passed " passed, " left_out " left out"; exit passed == 0 || left_out > 0 }' target/outside/tests.txt
+}
+
+examples_packed() {
+    for file in examples/*.query; do
+        reference querytext pack <"${file%.query}.txt" | cmp - "$file"
+    done
+}
+
+# The stored lines of calls are stated by a script, not copied from what the program printed.
+calls_stated() {
+    python3 crates/calls/make_stdin.py target/outside/stdin target/outside/stdout
+    cmp target/outside/stdin crates/calls/stdin
+    cmp target/outside/stdout crates/calls/stdout
+}
+
+tests/prove.sh check plan calls
+tests/prove.sh staticlib fanchuki
+began=$SECONDS
+tests/c/run.sh
+echo "   the C tests: ok ($((SECONDS - began)) s)"
+stage "exit codes" tests/exits.sh
+stage "the stored cases of calls are the stated ones" calls_stated
+stage "the examples are packed from their texts" examples_packed
+stage "the reference's own tests" own_tests
+stage "plan beside the reference" reference diff_plan target/bin/plan "$seed" ${files:+"$files"}
+stage "calls beside the reference" reference diff_calls target/bin/calls "$seed" ${lists:+"$lists"}
+stage "the C call beside the reference" over_the_archive diff_c "$seed" ${files:+"$files"}
+stage "a soak of the C call" over_the_archive soak 20000 2 "$seed"
+stage "planners that nearly work are told apart" reference tell_apart target/bin/plan "$seed" ${files:+"$files"}
+echo "outside: ok ($SECONDS s)"

@@ -16,7 +16,7 @@ pub fn fanchuki_plan(query: &[u8], output: &mut [u8]) -> u64 {
 }
 
 fn load_solve_read(query: &[u8], output: &mut [u8]) -> Result<Option<usize>, Refusal> {
-    let mut planner = Planner::empty(Method::Document);
+    let mut planner = Planner::empty(Method::Rules);
     planner.load(query)?;
     if planner.solve(&mut vec![0; WORK_CELLS])?.cost.is_none() {
         return Ok(None);

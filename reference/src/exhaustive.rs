@@ -7,16 +7,72 @@
 
 use std::cmp::Reverse;
 use std::collections::{BinaryHeap, HashMap};
+use std::fmt;
 
 use crate::query::Query;
 use crate::rules::Stack;
+use crate::sets::{self, Set};
 use crate::step::Step;
 use crate::units::Charge;
+
+/// The search keeps every stack that it reaches. So many take less than a gigabyte and
+/// half a minute: all queries of five relations, six at four sites, seven at two, nine
+/// at one.
+pub const MOST_STACKS: u64 = 6_000_000;
+
+/// A query that the search does not begin with, and how many stacks it could reach.
+#[derive(Clone, Copy, Debug, PartialEq, Eq)]
+pub struct TooLarge {
+    pub stacks: u64,
+}
+
+impl fmt::Display for TooLarge {
+    fn fmt(&self, f: &mut fmt::Formatter) -> fmt::Result {
+        write!(
+            f,
+            "too large: the search could reach {} stacks and keeps at most {MOST_STACKS}",
+            self.stacks
+        )
+    }
+}
+
+/// How many stacks a plan can reach at most: results that share no relation, in any
+/// order, each in one of its forms.
+pub fn stacks(query: &Query) -> u64 {
+    let all = sets::everything(query.relations.len());
+    let mut on_top_of = vec![0; usize::from(all) + 1];
+    for held in (0..=all).rev() {
+        let results = query.subqueries().iter().filter(|&&result| result & held == 0);
+        let more =
+            results.map(|&result| forms(query, result) * on_top_of[usize::from(held | result)]);
+        on_top_of[usize::from(held)] = 1 + more.sum::<u64>();
+    }
+    on_top_of[0]
+}
+
+/// A relation is bare at its home or was sent elsewhere; a larger result was joined at
+/// a site or sent to one.
+fn forms(query: &Query, result: Set) -> u64 {
+    let sites = query.sites.len() as u64;
+    if sets::count(result) == 1 {
+        sites
+    } else {
+        2 * sites
+    }
+}
 
 /// The cheapest cost of an allowed plan, or none. Stacks are taken in the order of
 /// what it costs to reach them, so the first finished one is the cheapest; two ways
 /// to one stack go on alike, so only the cheaper is followed.
-pub fn cheapest(query: &Query) -> Option<Charge> {
+pub fn cheapest(query: &Query) -> Result<Option<Charge>, TooLarge> {
+    let most = stacks(query);
+    if most > MOST_STACKS {
+        return Err(TooLarge { stacks: most });
+    }
+    Ok(search(query))
+}
+
+fn search(query: &Query) -> Option<Charge> {
     let steps: Vec<Step> = Step::all(query).collect();
     let mut reached: HashMap<Stack, Charge> = HashMap::new();
     let mut waiting = BinaryHeap::from([Reverse((Charge(0), Stack::default()))]);

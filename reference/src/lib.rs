@@ -1,4 +1,4 @@
-//! The outside tests of Fanchuki, written from document 01 alone.
+//! The outside tests of Fanchuki, written from the rules alone (docs/RULES.md).
 //!
 //! Read in this order: `query` and `prices` (what is planned), `rules` (the plan
 //! rules), `exhaustive` (the cheapest allowed plan by searching those rules),

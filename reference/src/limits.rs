@@ -1,4 +1,4 @@
-//! The numbers of document 01, each once.
+//! The numbers of the rules, each once.
 
 pub const MOST_SITES: usize = 8;
 pub const MOST_RELATIONS: usize = 9;

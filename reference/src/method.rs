@@ -1,10 +1,10 @@
-//! How the tables are filled: as document 01 says, or in one of the ways that nearly
+//! How the tables are filled: as the rules say, or in one of the ways that nearly
 //! work. The wrong ways are here so that the tests can be seen to tell them apart.
 
 #[derive(Clone, Copy, Debug, PartialEq, Eq)]
 pub enum Method {
-    /// As document 01 says.
-    Document,
+    /// As the rules say.
+    Rules,
     /// Joins only at homes of the relations in the two parts.
     OnlyHomes,
     /// One operand of each join is a single relation, as in the older method.
@@ -26,7 +26,7 @@ pub enum Method {
 }
 
 impl Method {
-    /// "Planners that nearly work" of document 01.
+    /// The planners that nearly work of docs/RULES.md, 11.
     pub const NEARLY_WORKING: [Method; 5] = [
         Method::OnlyHomes,
         Method::SingleOperand,
@@ -46,7 +46,7 @@ impl Method {
 
     pub fn name(self) -> &'static str {
         match self {
-            Method::Document => "document",
+            Method::Rules => "rules",
             Method::OnlyHomes => "only-homes",
             Method::SingleOperand => "single-operand",
             Method::IndexAfterSend => "index-after-send",
@@ -60,7 +60,7 @@ impl Method {
     }
 
     pub fn from_name(name: &str) -> Option<Method> {
-        let mut all = Method::wrong().chain([Method::Document]);
+        let mut all = Method::wrong().chain([Method::Rules]);
         all.find(|method| method.name() == name)
     }
 }

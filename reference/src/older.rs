@@ -25,7 +25,7 @@ impl Older {
         let cost = match self {
             Older::SingleOperand => planned(query, query, Method::SingleOperand),
             Older::OnlyHomes => planned(query, query, Method::OnlyHomes),
-            Older::EqualLines => planned(&with_equal_lines(query), query, Method::Document),
+            Older::EqualLines => planned(&with_equal_lines(query), query, Method::Rules),
         };
         cost.0 as f64 / least.0 as f64
     }

@@ -1,11 +1,11 @@
-//! Queries that are pinned by name: Q of document 01 and the rows made from it, and
+//! Queries that are pinned by name: Q of the rules and the rows made from it, and
 //! the vectors from the sources.
 
 use crate::query::{Line, Query, Relation, Site};
 use crate::tree::{self, Join};
 use crate::units::{Bytes, Charge, Rate};
 
-/// Q of document 01.
+/// Q of docs/RULES.md, 10.1.
 pub fn q() -> Query {
     Query::new(
         equal_sites(3, 2, 1),
@@ -55,7 +55,8 @@ fn relation_0_alone(delivery: usize) -> Query {
     )
 }
 
-/// The fourth example of source 000 as a chain of five; 364 is its paper's own figure.
+/// The fourth example of C-W. Chung, *A Query Optimization in Distributed Database
+/// Systems* (1983), as a chain of five; 364 is the paper's own figure.
 pub fn chain_of_five() -> Query {
     let by_subquery = [100, 400, 80, 700, 311, 62, 1100, 481, 214, 43, 1600, 733, 321, 143, 29];
     Query::new(

@@ -1,4 +1,4 @@
-//! Fixed lists of calls for the places of document 01 that are easily misread: state
+//! Fixed lists of calls for the places of the rules that are easily misread: state
 //! before input, what a refusal leaves standing, wide arguments, every refusal of check
 //! with its place.
 

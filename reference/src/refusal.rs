@@ -1,4 +1,4 @@
-//! The refusals of document 01 and their numbers.
+//! The refusals and their numbers (docs/RULES.md, 8).
 
 #[derive(Clone, Copy, Debug, PartialEq, Eq)]
 pub enum Refusal {

@@ -1,4 +1,4 @@
-//! The two tables of document 01: Delivered and Joined, each defined by the other
+//! The two tables of the rules: Delivered and Joined, each defined by the other
 //! over fewer relations.
 
 use crate::method::Method;

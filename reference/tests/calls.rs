@@ -8,7 +8,7 @@ use reference::planner::Planner;
 use reference::script::Call;
 
 fn run(calls: &[Call]) -> Vec<String> {
-    let mut planner = Planner::empty(Method::Document);
+    let mut planner = Planner::empty(Method::Rules);
     calls.iter().flat_map(|call| call.run(&mut planner)).collect()
 }
 

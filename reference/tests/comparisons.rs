@@ -1,7 +1,6 @@
 //! The comparing programs themselves: they pass a program that is right and stop at one
 //! that nearly works.
 
-use reference::compare::c_call;
 use reference::compare::program::Program;
 use reference::compare::{apart, calls, plan};
 use reference::listing;
@@ -23,10 +22,10 @@ fn model_calls(method: Method) -> Program {
 
 #[test]
 fn plan_passes_when_it_is_right() {
-    let tally = plan::compare(&model_plan(Method::Document), 41, 200).unwrap().unwrap();
-    for answer in
-        ["plan", "no route", "refused 1", "refused 2", "refused 3", "refused 4", "refused 5"]
-    {
+    let tally = plan::compare(&model_plan(Method::Rules), 41, 200).unwrap().unwrap();
+    let refused = [1, 2, 3, 4, 5].map(|number| format!("refused {number}"));
+    let others = ["plan", "no route", "held to the exhaustive search"].map(String::from);
+    for answer in refused.iter().chain(&others) {
         assert!(tally.count(answer) > 0, "{answer}");
     }
 }
@@ -34,14 +33,14 @@ fn plan_passes_when_it_is_right() {
 #[test]
 fn plan_fails_when_it_nearly_works() {
     for method in Method::wrong() {
-        let mismatch = plan::compare(&model_plan(method), plan::DEFAULT_SEED, plan::DEFAULT_COUNT);
+        let mismatch = plan::compare(&model_plan(method), plan::DEFAULT_SEED, plan::DEFAULT_FILES);
         assert!(mismatch.unwrap().is_err(), "{}", method.name());
     }
 }
 
 #[test]
 fn calls_pass_when_they_are_right() {
-    let tally = calls::compare(&model_calls(Method::Document), 42, 40).unwrap().unwrap();
+    let tally = calls::compare(&model_calls(Method::Rules), 42, 40).unwrap().unwrap();
     let answered =
         ["load", "link", "solve", "read", "check"].map(|call| format!("{call}, answered"));
     let refused = [1, 2, 3, 4, 5].map(|number| format!("load, refused {number}"));
@@ -60,7 +59,7 @@ fn calls_pass_when_they_are_right() {
 fn calls_fail_when_they_nearly_work() {
     for method in Method::wrong() {
         let mismatch =
-            calls::compare(&model_calls(method), calls::DEFAULT_SEED, calls::DEFAULT_COUNT);
+            calls::compare(&model_calls(method), calls::DEFAULT_SEED, calls::DEFAULT_LISTS);
         let Err(mismatch) = mismatch.unwrap() else { panic!("{}", method.name()) };
         assert!(mismatch.calls.len() <= 4, "{mismatch}");
     }
@@ -69,50 +68,8 @@ fn calls_fail_when_they_nearly_work() {
 #[test]
 fn each_wrong_method_is_told_apart() {
     for method in Method::wrong() {
-        let right = |file: &[u8]| listing::listing(file, Method::Document);
-        let mismatch =
-            apart::told_apart(method, 1, right).unwrap_or_else(|| panic!("{}", method.name()));
-        println!("== {}\n{mismatch}", method.name());
+        let right = |file: &[u8]| Ok(listing::listing(file, Method::Rules));
+        let verdict = apart::told_apart(method, 1, apart::DEFAULT_FILES, right).unwrap();
+        assert!(matches!(verdict, apart::Verdict::Told(_)), "{}: {verdict:?}", method.name());
     }
-}
-
-/// The model behind the C signature.
-unsafe extern "C" fn model(
-    query: *const u8,
-    query_length: usize,
-    output: *mut u8,
-    output_length: usize,
-) -> u64 {
-    let query =
-        if query_length == 0 { &[] } else { std::slice::from_raw_parts(query, query_length) };
-    let output = if output_length == 0 {
-        &mut []
-    } else {
-        std::slice::from_raw_parts_mut(output, output_length)
-    };
-    reference::c_call::fanchuki_plan(query, output)
-}
-
-/// The same, but it writes one byte behind the plan.
-unsafe extern "C" fn writes_behind(
-    query: *const u8,
-    query_length: usize,
-    output: *mut u8,
-    output_length: usize,
-) -> u64 {
-    let returned = model(query, query_length, output, output_length);
-    if returned > 0 && returned < 256 {
-        output.add(returned as usize).write(0);
-    }
-    returned
-}
-
-#[test]
-fn the_c_call_passes_when_it_is_right() {
-    assert!(c_call::compare(model, 43, 300).is_ok());
-}
-
-#[test]
-fn the_c_call_fails_when_it_writes_behind_the_plan() {
-    assert!(c_call::compare(writes_behind, 43, 300).is_err());
 }

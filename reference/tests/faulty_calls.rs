@@ -69,7 +69,7 @@ struct Faulty {
 
 impl Faulty {
     fn new(fault: Fault) -> Faulty {
-        let empty = Planner::empty(Method::Document);
+        let empty = Planner::empty(Method::Rules);
         Faulty { fault, planner: empty.clone(), reader: empty, first_solve: None }
     }
 
@@ -177,7 +177,7 @@ fn without_a_fault_it_passes() {
 fn every_fault_is_found() {
     for fault in FAULTS {
         let Err(mismatch) =
-            calls::compare(&fault, calls::DEFAULT_SEED, calls::DEFAULT_COUNT).unwrap()
+            calls::compare(&fault, calls::DEFAULT_SEED, calls::DEFAULT_LISTS).unwrap()
         else {
             panic!("{fault:?} is not found");
         };

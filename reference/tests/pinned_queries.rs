@@ -1,4 +1,4 @@
-//! The pinned table of document 01 and the vectors from the sources.
+//! The pinned rows of the rules and the vectors from the papers.
 
 use reference::generate::queries::{self, Room};
 use reference::limits::{DEAREST_PLAN, LONGEST_FILE, MOST_STEPS};
@@ -15,7 +15,7 @@ fn cost(query: &Query, method: Method) -> Option<u64> {
 }
 
 fn list(query: &Query) -> String {
-    listing::listing(&encode::encode(query), Method::Document)
+    listing::listing(&encode::encode(query), Method::Rules)
 }
 
 #[test]
@@ -28,9 +28,12 @@ fn q_has_107_bytes_and_its_listing() {
 
 #[test]
 fn rows_1_to_9() {
-    for (row, (query, expected)) in pinned::rows().iter().enumerate() {
-        assert_eq!(cost(query, Method::Document), *expected, "row {}", row + 1);
-        assert_eq!(exhaustive::cheapest(query).map(|cost| cost.0), *expected, "row {}", row + 1);
+    let rows = pinned::rows();
+    assert_eq!(rows.len(), 9);
+    for (row, (query, expected)) in rows.iter().enumerate() {
+        assert_eq!(cost(query, Method::Rules), *expected, "row {}", row + 1);
+        let searched = exhaustive::cheapest(query).unwrap();
+        assert_eq!(searched.map(|cost| cost.0), *expected, "row {}", row + 1);
     }
 }
 
@@ -62,7 +65,7 @@ fn the_chain_of_five_of_source_000() {
 #[test]
 fn the_bushy_case() {
     let query = pinned::bushy_four();
-    assert_eq!(cost(&query, Method::Document), Some(202));
+    assert_eq!(cost(&query, Method::Rules), Some(202));
     assert_eq!(cost(&query, Method::SingleOperand), Some(301));
     assert_eq!(cost(&query, Method::OnlyHomes), Some(1201));
 }
@@ -95,11 +98,14 @@ fn the_dearest_plan_has_34_steps() {
 
 #[test]
 fn every_written_plan_is_allowed_at_its_cost() {
+    let mut written = 0;
     for case in 0..2_000 {
         let query = queries::query(&mut Random::for_case(21, case), &Room::full());
-        if let Some(plan) = solve::solve(&query, Method::Document) {
+        if let Some(plan) = solve::solve(&query, Method::Rules) {
             assert_eq!(check::check(&query, &step::plan_bytes(&plan.steps)), Ok(plan.cost));
             assert!(plan.cost.0 <= DEAREST_PLAN);
+            written += 1;
         }
     }
+    assert!(written > 1_000, "{written}");
 }

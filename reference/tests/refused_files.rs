@@ -29,18 +29,22 @@ fn q_with(changes: &[(usize, u8)]) -> Vec<u8> {
 
 #[test]
 fn every_cut_is_1() {
-    let q = pinned::q();
-    assert!(files::every_cut(&q).all(|file| refused(&file) == Some(1)));
-    let star = pinned::uniform(pinned::star(9), 8);
-    assert!(files::every_cut(&star).all(|file| refused(&file) == Some(1)));
+    for (query, length) in [(pinned::q(), 107), (pinned::uniform(pinned::star(9), 8), LONGEST_FILE)]
+    {
+        let cuts: Vec<Vec<u8>> = files::every_cut(&query).collect();
+        assert_eq!(cuts.len(), length);
+        assert!(cuts.iter().all(|file| refused(file) == Some(1)));
+    }
 }
 
 #[test]
 fn every_field_wrong_is_refused() {
     for case in 0..20 {
         let query = queries::query(&mut Random::for_case(31, case), &Room::full());
-        for file in files::every_field_wrong(&query) {
-            assert!(refused(&file).is_some());
+        let (right, wrong) = (encode(&query), files::every_field_wrong(&query));
+        assert!(wrong.iter().all(|file| refused(file).is_some()));
+        for (place, byte) in right.iter().enumerate() {
+            assert!(wrong.iter().any(|file| file[place] != *byte), "byte {place} is never wrong");
         }
     }
 }

@@ -6,25 +6,30 @@ use reference::exhaustive;
 use reference::generate::queries::{self, Room};
 use reference::hex::hex;
 use reference::method::Method;
+use reference::pinned;
 use reference::query::Query;
 use reference::random::Random;
+use reference::tree::Join;
+use reference::units::Charge;
 use reference::{encode, solve, step};
 
-fn agree(query: &Query) {
-    let searched = exhaustive::cheapest(query);
-    let plan = solve::solve(query, Method::Document);
+/// Whether there is a plan, on which tables and search agree.
+fn agree(query: &Query) -> bool {
+    let searched = exhaustive::cheapest(query).unwrap();
+    let plan = solve::solve(query, Method::Rules);
     let shown = || hex(&encode::encode(query));
     assert_eq!(plan.as_ref().map(|plan| plan.cost), searched, "query {}", shown());
     if let Some(plan) = plan {
         let checked = check::check(query, &step::plan_bytes(&plan.steps));
         assert_eq!(checked, Ok(plan.cost), "query {}", shown());
     }
+    searched.is_some()
 }
 
 fn agree_on_many(seed: u64, count: u64, room: Room) {
-    for case in 0..count {
-        agree(&queries::query(&mut Random::for_case(seed, case), &room));
-    }
+    let query = |case| queries::query(&mut Random::for_case(seed, case), &room);
+    let planned = (0..count).filter(|&case| agree(&query(case))).count() as u64;
+    assert!(count / 2 < planned && planned < count, "{planned} of {count} have a plan");
 }
 
 #[test]
@@ -44,14 +49,38 @@ fn five_relations() {
 
 #[test]
 fn the_search_finds_the_cheapest_of_every_single_plan() {
+    let mut plans = 0;
     for case in 0..300 {
         let room = Room { relations: 1..=3, sites: 1..=3 };
         let query = queries::query(&mut Random::for_case(14, case), &room);
         let mut least = None;
         exhaustive::every_plan(&query, &mut |steps, cost| {
             assert_eq!(check::check(&query, &step::plan_bytes(steps)), Ok(cost));
-            least = Some(least.map_or(cost, |least: reference::units::Charge| least.min(cost)));
+            least = Some(least.map_or(cost, |least: Charge| least.min(cost)));
+            plans += 1;
         });
-        assert_eq!(exhaustive::cheapest(&query), least);
+        assert_eq!(exhaustive::cheapest(&query), Ok(least));
     }
+    assert!(plans > 1_000, "{plans}");
+}
+
+#[test]
+fn the_search_refuses_what_it_cannot_keep() {
+    let refused =
+        |joins: Vec<Join>, sites| exhaustive::cheapest(&pinned::uniform(joins, sites)).is_err();
+    assert!(refused(pinned::star(9), 8));
+    assert!(refused(pinned::chain(9), 2));
+    assert!(refused(pinned::chain(6), 5));
+    assert!(!refused(pinned::star(4), 8));
+}
+
+/// One relation at two sites: nothing held, or it at home, or sent to the other site.
+/// Two relations at one site: nothing, either, both in either order, or joined, which
+/// counts twice because a larger result may have been sent.
+#[test]
+fn the_stacks_of_the_smallest_queries() {
+    assert_eq!(exhaustive::stacks(&pinned::uniform(pinned::chain(1), 2)), 3);
+    assert_eq!(exhaustive::stacks(&pinned::uniform(pinned::chain(2), 1)), 7);
+    let five = exhaustive::stacks(&pinned::uniform(pinned::chain(5), 8));
+    assert!(five <= exhaustive::MOST_STACKS, "{five}");
 }

@@ -50,8 +50,8 @@ fn the_tool() {
     let q = print(&pinned::q());
     assert_eq!(run("unpack", &encode(&pinned::q())), q);
     assert_eq!(run("pack", q.as_bytes()).as_bytes(), encode(&pinned::q()));
-    assert_eq!(run("unpack", &[0]), "");
-    assert_eq!(run("pack", b"site 1"), "");
+    assert_eq!(run("unpack", &[0]), "ended by exit status: 1\n");
+    assert_eq!(run("pack", b"site 1"), "ended by exit status: 1\n");
 }
 
 #[test]

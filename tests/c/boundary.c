@@ -1,80 +1,120 @@
-/* The C boundary: lengths 0 and 1, null with length 0, an output just long enough and one byte short, guard bytes around
- * the output. Built with the address and undefined-behaviour sanitizers; takes the packed Q (examples/q.query). */
+/* The C boundary: what the call answers, which bytes it writes, and that it touches nothing else. Query and output stand
+ * between pages without access, each at both ends of its page, and the query's page can only be read: an access of the
+ * archive outside the lent bytes ends the test, whatever it reads or writes. */
 #include <stdio.h>
 #include <stdlib.h>
 #include <string.h>
 
-#include "fanchuki.h"
+#include "examples.h"
+#include "guarded.h"
 
-static int failures;
+enum { FILL = 165 }; /* no byte of a plan */
+
+typedef struct {
+    uint8_t query[FANCHUKI_LONGEST_QUERY + 1];
+    size_t query_length;
+    size_t output_length;
+    uint64_t answer;     /* wanted */
+    const uint8_t *plan; /* wanted where the answer is a plan's length */
+} call;
+
+static uint8_t *query_page, *output_page;
+static char making[100] = "boundary"; /* the call that is being made */
+static unsigned made;
 
 static void expect(const char *what, uint64_t got, uint64_t wanted)
 {
     if (got == wanted)
         return;
-    printf("boundary: %s: %llu instead of %llu\n", what, (unsigned long long)got, (unsigned long long)wanted);
-    failures++;
+    printf("%s: %s is %llu instead of %llu\n", making, what, (unsigned long long)got, (unsigned long long)wanted);
+    exit(1);
 }
 
-/* Calls with an output of its own allocation, so that a byte before or behind it is the sanitizer's to find. */
-static uint64_t call(const uint8_t *query, size_t query_length, size_t output_length, uint8_t fill, const uint8_t *wanted, size_t wanted_length)
+/* The output's page: the plan where it belongs, and every other byte as it was. */
+static void expect_output(const call *c, const uint8_t *output)
 {
-    uint8_t *in = malloc(query_length ? query_length : 1);
-    uint8_t *out = malloc(output_length ? output_length : 1);
-    if (query_length)
-        memcpy(in, query, query_length);
-    memset(out, fill, output_length);
-    uint64_t answer = fanchuki_plan(in, query_length, out, output_length);
-    for (size_t i = 0; i < output_length; i++)
-        expect("output byte", out[i], i < wanted_length ? wanted[i] : fill);
-    if (query_length)
-        expect("query bytes changed", (uint64_t)memcmp(in, query, query_length), 0);
-    free(in);
-    free(out);
-    return answer;
+    size_t front = (size_t)(output - output_page);
+    size_t length = c->answer < FANCHUKI_REFUSED ? c->answer : 0;
+    for (size_t i = 0; i < PAGE; i++)
+        expect("a byte of the output's page", output_page[i], i >= front && i - front < length ? c->plan[i - front] : FILL);
 }
 
-int main(int argc, char **argv)
+static void hold_at(const call *c, place query_at, place output_at)
 {
-    static const uint8_t plan[] = {4, 1, 0, 1, 1, 2, 0, 3, 0};
-    uint8_t query[FANCHUKI_LONGEST_QUERY + 2];
-    FILE *file = argc == 2 ? fopen(argv[1], "rb") : NULL;
-    if (file == NULL)
-        return 2;
-    size_t length = fread(query, 1, sizeof query, file);
-    fclose(file);
-    expect("length of Q", length, 107);
+    uint8_t *query = placed(query_page, c->query_length, query_at);
+    uint8_t *output = placed(output_page, c->output_length, output_at);
+    snprintf(making, sizeof making, "boundary: query of %zu bytes at the %s, output of %zu at the %s", c->query_length,
+             query_at == AT_FRONT ? "front" : "back", c->output_length, output_at == AT_FRONT ? "front" : "back");
+    memset(output_page, FILL, PAGE);
+    memset(query_page, FILL, PAGE);
+    memcpy(query, c->query, c->query_length);
+    read_only(query_page, 1);
+    expect("the answer", fanchuki_plan(query, c->query_length, output, c->output_length), c->answer);
+    read_only(query_page, 0);
+    expect_output(c, output);
+    made++;
+}
 
-    expect("null, null", fanchuki_plan(NULL, 0, NULL, 0), 256 + 1);
-    expect("Q, null output", fanchuki_plan(query, length, NULL, 0), 256 + 23);
-    expect("empty query", call(query, 0, 69, 7, NULL, 0), 256 + 1);
-    expect("one byte", call(query, 1, 69, 7, NULL, 0), 256 + 1);
-    for (size_t cut = 0; cut < length; cut++)
-        expect("cut", call(query, cut, 69, 9, NULL, 0), 256 + 1);
-    for (size_t room = 0; room < 80; room++) {
-        int fits = room >= sizeof plan;
-        expect("room", call(query, length, room, 165, plan, fits ? sizeof plan : 0), fits ? sizeof plan : 256 + 23);
+static void hold(const call *c)
+{
+    hold_at(c, AT_FRONT, AT_FRONT);
+    hold_at(c, AT_FRONT, AT_BACK);
+    hold_at(c, AT_BACK, AT_FRONT);
+    hold_at(c, AT_BACK, AT_BACK);
+}
+
+/* Every cut of the file, the file with one byte behind, and the file with every length of output up to 80. */
+static void hold_example(const example *e)
+{
+    static call c;
+    read_example(e, c.query);
+    c.plan = e->plan;
+    c.output_length = FANCHUKI_LONGEST_PLAN;
+    c.answer = FANCHUKI_REFUSED + FANCHUKI_CUT;
+    for (c.query_length = 0; c.query_length < e->length; c.query_length++)
+        hold(&c);
+    c.query_length = e->length + 1;
+    c.answer = FANCHUKI_REFUSED + FANCHUKI_BYTES_FOLLOW;
+    hold(&c);
+    c.query_length = e->length;
+    for (c.output_length = 0; c.output_length <= 80; c.output_length++) {
+        c.answer = c.output_length < e->plan_length ? FANCHUKI_REFUSED + FANCHUKI_SHORT_OUTPUT : e->plan_length;
+        hold(&c);
     }
-    query[length] = 0;
-    expect("a byte follows", call(query, length + 1, 69, 3, NULL, 0), 256 + 5);
+}
 
-    /* guard bytes of our own on both sides of an output in the middle of an array */
-    uint8_t area[64];
-    memset(area, 90, sizeof area);
-    expect("guarded", fanchuki_plan(query, length, area + 20, sizeof plan), sizeof plan);
-    for (size_t i = 0; i < sizeof area; i++)
-        expect("guard", area[i], i >= 20 && i < 20 + sizeof plan ? plan[i - 20] : 90);
+/* Q with lines 1 to 0 and 2 to 0 closed: the output stays whatever its length. */
+static void hold_no_route(const example *q)
+{
+    static call c;
+    size_t lines = 1 + 3 * 9 + 1 + 2 * 2 + 1 + 2 + 2 + 3 * 4 + 1;
+    read_example(q, c.query);
+    c.query[lines + 2 * 9] = 0;
+    c.query[lines + 4 * 9] = 0;
+    c.query_length = q->length;
+    c.answer = FANCHUKI_NO_ROUTE;
+    for (c.output_length = 0; c.output_length <= 80; c.output_length++)
+        hold(&c);
+    expect("no route, null output", fanchuki_plan(c.query, c.query_length, NULL, 0), FANCHUKI_NO_ROUTE);
+}
 
-    /* lines 1 to 0 and 2 to 0 closed: no route, and the output stays */
-    uint8_t closed[107];
-    memcpy(closed, query, 107);
-    size_t lines = 1 + 27 + 1 + 4 + 1 + 2 + 2 + 12 + 1;
-    closed[lines + 2 * 9] = 0;
-    closed[lines + 4 * 9] = 0;
-    expect("no route", call(closed, 107, 69, 5, NULL, 0), 0);
-    expect("no route, null output", fanchuki_plan(closed, 107, NULL, 0), 0);
+static void expect_null_allowed(const example *q)
+{
+    uint8_t query[FANCHUKI_LONGEST_QUERY + 1];
+    read_example(q, query);
+    expect("null, null", fanchuki_plan(NULL, 0, NULL, 0), FANCHUKI_REFUSED + FANCHUKI_CUT);
+    expect("Q, null output", fanchuki_plan(query, q->length, NULL, 0), FANCHUKI_REFUSED + FANCHUKI_SHORT_OUTPUT);
+}
 
-    if (failures == 0)
-        printf("boundary: ok\n");
-    return failures != 0;
+int main(void)
+{
+    on_stopped_access(making);
+    query_page = guarded_page();
+    output_page = guarded_page();
+    for (int i = 0; i < EXAMPLES; i++)
+        hold_example(&examples[i]);
+    hold_no_route(&examples[0]);
+    expect_null_allowed(&examples[0]);
+    printf("boundary: %u calls between guard pages, each as it should be\n", made);
+    return 0;
 }

@@ -1,19 +1,24 @@
-/* How much stack the C call takes: it runs on a painted stack, and what is no longer painted was used. Takes query files;
- * fails where a call takes more than the header asks for. */
+/* The stack that the C call takes: it runs on a painted stack, and what is no longer painted was used. Prints the most over
+ * the example queries and many random ones, and fails where the header's figure is below it, or so far above it that it is
+ * no longer the call's. Link it with -z now: the dynamic linker's part is not the call's. */
 #include <pthread.h>
 #include <stdio.h>
 #include <stdlib.h>
 #include <string.h>
 
-#include "fanchuki.h"
+#include "examples.h"
+#include "random_query.h"
 
-enum { AREA = 1 << 20, PAINT = 0xa5 };
+enum { AREA = 1 << 18, PAINT = 0xa5, RANDOM_QUERIES = 5000, MARGIN = 8192 };
 
 typedef struct {
     uint8_t bytes[FANCHUKI_LONGEST_QUERY + 1];
     size_t length;
     uint64_t answer;
 } query_file;
+
+static size_t most;
+static unsigned plans;
 
 static void *nothing(void *file)
 {
@@ -36,27 +41,42 @@ static size_t used(void *(*work)(void *), query_file *file)
     pthread_t thread;
     size_t free_bytes = 0;
     memset(area, PAINT, AREA);
-    if (pthread_attr_init(&attributes) || pthread_attr_setstack(&attributes, area, AREA) || pthread_create(&thread, &attributes, work, file) || pthread_join(thread, NULL))
+    if (pthread_attr_init(&attributes) || pthread_attr_setstack(&attributes, area, AREA) ||
+        pthread_create(&thread, &attributes, work, file) || pthread_join(thread, NULL))
         exit(2);
     while (free_bytes < AREA && area[free_bytes] == PAINT)
         free_bytes++;
     return AREA - free_bytes;
 }
 
-int main(int argc, char **argv)
+static void measure(query_file *file)
 {
-    int failed = argc < 2;
-    for (int i = 1; i < argc; i++) {
-        query_file file;
-        FILE *f = fopen(argv[i], "rb");
-        if (f == NULL)
-            return 2;
-        file.length = fread(file.bytes, 1, sizeof file.bytes, f);
-        fclose(f);
-        size_t bytes = used(plan, &file) - used(nothing, &file);
-        printf("stack: %s: %zu bytes\n", argv[i], bytes);
-        if (file.answer == 0 || file.answer >= FANCHUKI_REFUSED || bytes > FANCHUKI_STACK)
-            failed = 1;
+    size_t bytes = used(plan, file) - used(nothing, file);
+    if (file->answer >= FANCHUKI_REFUSED) {
+        printf("stack: a query is refused with %d\n", (int)(file->answer - FANCHUKI_REFUSED));
+        exit(1);
     }
-    return failed;
+    most = bytes > most ? bytes : most;
+    plans += file->answer != FANCHUKI_NO_ROUTE;
+}
+
+int main(void)
+{
+    static query_file file;
+    uint64_t state = 1;
+    for (int i = 0; i < EXAMPLES; i++) {
+        read_example(&examples[i], file.bytes);
+        file.length = examples[i].length;
+        measure(&file);
+    }
+    for (int i = 0; i < RANDOM_QUERIES; i++) {
+        file.length = random_query(&state, file.bytes);
+        measure(&file);
+    }
+    printf("stack: %zu bytes at most over %d queries, %u of them with a plan; the header says %d\n", most,
+           EXAMPLES + RANDOM_QUERIES, plans, FANCHUKI_STACK);
+    if (most <= FANCHUKI_STACK && FANCHUKI_STACK <= most + MARGIN)
+        return 0;
+    printf("stack: FANCHUKI_STACK should be %zu to %zu\n", most, most + MARGIN);
+    return 1;
 }

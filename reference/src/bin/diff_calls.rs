@@ -1,5 +1,6 @@
-//! `diff_calls CALLS [SEED] [COUNT]`: holds the built program `calls` to the model on
-//! COUNT random scripts. Ends with 1 and the script in hex at the first mismatch.
+//! `diff_calls CALLS [SEED] [LISTS]`: holds the built program `calls` to the model on
+//! fixed lists of calls and on LISTS random ones. Ends with 1 and the script at the
+//! first mismatch.
 
 use std::process::ExitCode;
 
@@ -7,9 +8,12 @@ use reference::compare::arguments::Arguments;
 use reference::compare::calls;
 
 fn main() -> ExitCode {
-    let Some(arguments) = Arguments::of_program(calls::DEFAULT_SEED, calls::DEFAULT_COUNT) else {
-        eprintln!("usage: diff_calls CALLS [SEED] [COUNT]");
+    let Some(arguments) = Arguments::of_program(calls::DEFAULT_SEED, calls::DEFAULT_LISTS) else {
+        eprintln!("usage: diff_calls CALLS [SEED] [LISTS]");
         return ExitCode::from(2);
     };
-    arguments.report("scripts", calls::compare(&arguments.program, arguments.seed, arguments.count))
+    arguments.report(
+        "lists of calls",
+        calls::compare(&arguments.program, arguments.seed, arguments.count),
+    )
 }

@@ -1,47 +1,36 @@
-//! `tell_apart [PLAN] [SEED]`: shows that the tests can fail. For each planner that
-//! nearly works it prints a query on which that planner and the built program `plan`
-//! (without one, the model) answer differently; ends with 1 if it finds none.
+//! `tell_apart PLAN [SEED] [FILES]`: shows that the tests can fail. For each planner that
+//! nearly works it prints a query on which the built program `plan` is right and that
+//! planner is not, the shortest of FILES random ones. Ends with 1 where there is none, or
+//! where `plan` is not right.
 
 use std::process::ExitCode;
 
-use reference::compare::apart;
-use reference::compare::program::{Answering, Feed, Program};
+use reference::compare::apart::{self, Verdict};
+use reference::compare::arguments::{self, Arguments};
+use reference::compare::program::{Answering, Feed};
 use reference::method::Method;
-use reference::{decode, listing, text};
 
 fn main() -> ExitCode {
-    let program = std::env::args_os().nth(1).map(Program::new);
-    let seed = std::env::args().nth(2).map_or(Some(1), |text| text.parse().ok());
-    let Some(seed) = seed else {
-        eprintln!("usage: tell_apart [PLAN] [SEED]");
+    let Some(arguments) = Arguments::of_program(apart::DEFAULT_SEED, apart::DEFAULT_FILES) else {
+        eprintln!("usage: tell_apart PLAN [SEED] [FILES]");
         return ExitCode::from(2);
     };
-    let answer = |file: &[u8]| match &program {
-        Some(program) => {
-            program.run(file, Feed::Whole).unwrap_or_else(|error| format!("{error}\n"))
-        }
-        None => listing::listing(file, Method::Document),
-    };
-    let mut all_told = true;
+    let mut told = 0;
+    let mut all = 0;
     for method in Method::wrong() {
         println!("== {}", method.name());
-        match apart::told_apart(method, seed, answer) {
-            Some(mismatch) => {
+        let answer = |file: &[u8]| arguments.program.run(file, Feed::Whole);
+        match apart::told_apart(method, arguments.seed, arguments.count, answer) {
+            Ok(Verdict::Told(mismatch)) => {
                 println!("{mismatch}");
-                if let Ok(query) = decode::decode(&mismatch.file) {
-                    println!("the query:\n{}", text::print(&query));
-                }
+                told += 1;
             }
-            None => {
-                println!("NOT told apart");
-                all_told = false;
-            }
+            Ok(Verdict::NotTold) => println!("NOT told apart"),
+            Ok(Verdict::NotRight(mismatch)) => println!("NOT RIGHT\n{mismatch}"),
+            Err(error) => return arguments::cannot_run(&arguments.program, error),
         }
+        all += 1;
     }
-    if all_told {
-        println!("all told apart");
-        ExitCode::SUCCESS
-    } else {
-        ExitCode::FAILURE
-    }
+    println!("{told} of {all} told apart");
+    ExitCode::from(u8::from(told < all))
 }

@@ -9,6 +9,7 @@ use crate::compare::program::Program;
 use crate::compare::tally::Tally;
 use crate::method::Method;
 
+/// PROGRAM [SEED] [COUNT] of a command line; what is counted, each program says.
 pub struct Arguments {
     pub program: Program,
     pub seed: u64,
@@ -16,7 +17,6 @@ pub struct Arguments {
 }
 
 impl Arguments {
-    /// PROGRAM [SEED] [COUNT] of the command line.
     pub fn of_program(seed: u64, count: u64) -> Option<Arguments> {
         let program = Program::new(env::args_os().nth(1)?);
         let (seed, count) = seed_and_count(2, seed, count)?;
@@ -31,28 +31,27 @@ impl Arguments {
     ) -> ExitCode {
         match result {
             Ok(result) => report(cases, self.seed, self.count, result),
-            Err(error) => {
-                eprintln!("{}: {error}", self.program.path.to_string_lossy());
-                ExitCode::from(2)
-            }
+            Err(error) => cannot_run(&self.program, error),
         }
     }
 }
 
-/// SEED and COUNT from a place of the command line on, if they are given.
+/// A seed and a count from a place of the command line on, if they are given. No cases
+/// would pass whatever is tested, so 0 is no count; and nothing may stand behind it.
 pub fn seed_and_count(place: usize, seed: u64, count: u64) -> Option<(u64, u64)> {
     let number = |place: usize, default: u64| match env::args().nth(place) {
         Some(text) => text.parse().ok(),
         None => Some(default),
     };
-    Some((number(place, seed)?, number(place + 1, count)?))
+    let numbers = (number(place, seed)?, number(place + 1, count)?);
+    (numbers.1 > 0 && env::args_os().len() <= place + 2).then_some(numbers)
 }
 
-/// The method that the command line names, the document's if it names none.
+/// The method that the command line names, that of the rules if it names none.
 pub fn method() -> Option<Method> {
     match env::args().nth(1) {
         Some(name) => Method::from_name(&name),
-        None => Some(Method::Document),
+        None => Some(Method::Rules),
     }
 }
 
@@ -74,4 +73,10 @@ pub fn report(
             ExitCode::FAILURE
         }
     }
+}
+
+/// Ends with 2: nothing was compared.
+pub fn cannot_run(program: &Program, error: io::Error) -> ExitCode {
+    eprintln!("{}: {error}", program.path.to_string_lossy());
+    ExitCode::from(2)
 }

@@ -64,17 +64,23 @@ pub fn compare(call: CCall, seed: u64, count: u64) -> Result<Tally, Box<Mismatch
     let sweeps = (0..count / SWEEP_EVERY).flat_map(|case| cases::random_sweep(seed, case));
     let random = (0..count).map(|case| cases::random_file(seed, case));
     for file in cases::fixed().into_iter().chain(sweeps).chain(random) {
-        let returned = compare_one(call, &file, LONGEST_PLAN, &mut tally)?;
-        if (1..256).contains(&returned) {
-            let length = returned as usize;
-            for length in [length, length - 1, 0, length + 1, 1_000] {
-                compare_one(call, &file, length, &mut tally)?;
-            }
-        } else {
-            compare_one(call, &file, 0, &mut tally)?;
-        }
+        compare_file(call, &file, &mut tally)?;
     }
     Ok(tally)
+}
+
+/// One file with outputs of several lengths: the longest plan's, and around the plan's own.
+pub fn compare_file(call: CCall, file: &[u8], tally: &mut Tally) -> Result<(), Box<Mismatch>> {
+    let returned = compare_one(call, file, LONGEST_PLAN, tally)?;
+    if (1..256).contains(&returned) {
+        let length = returned as usize;
+        for length in [length, length - 1, 0, length + 1, 1_000] {
+            compare_one(call, file, length, tally)?;
+        }
+    } else {
+        compare_one(call, file, 0, tally)?;
+    }
+    Ok(())
 }
 
 fn compare_one(
@@ -89,7 +95,7 @@ fn compare_one(
         feeds.push(true);
     }
     for null_for_empty in feeds {
-        // A buffer of exactly the query's bytes, so that a sanitizer sees a read past it.
+        // A copy, so that a store into the query shows.
         let lent: Box<[u8]> = query.into();
         let found = outcome(length, |output| {
             let mut query_pointer = lent.as_ptr();

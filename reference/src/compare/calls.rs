@@ -1,13 +1,12 @@
 //! The program `calls` held to the model, line by line. A list of calls on which they
 //! differ is made as short as it can be before it is printed.
 
-use std::fmt;
 use std::io;
 
+use crate::compare::calls_mismatch::{script, Mismatch};
 use crate::compare::program::{Answering, Feed};
 use crate::compare::tally::Tally;
 use crate::generate::calls;
-use crate::hex::hex;
 use crate::method::Method;
 use crate::pinned_calls;
 use crate::planner::Planner;
@@ -15,38 +14,17 @@ use crate::random::Random;
 use crate::script::Call;
 
 pub const DEFAULT_SEED: u64 = 1;
-/// Scripts in a run, and calls in a script.
-pub const DEFAULT_COUNT: u64 = 200;
-const CALLS_IN_A_SCRIPT: usize = 400;
-/// Calls in the first script, which is megabytes long.
+/// Lists of calls in a run.
+pub const DEFAULT_LISTS: u64 = 200;
+const CALLS_IN_A_LIST: usize = 400;
+/// Calls in the first list, whose script is megabytes long.
 const CALLS_IN_THE_FIRST: usize = 10_000;
 
-/// A list of calls on which the program and the model differ.
-#[derive(Clone, Debug)]
-pub struct Mismatch {
-    pub calls: Vec<Call>,
-    /// Bytes behind the last record, which end the run.
-    pub tail: Vec<u8>,
-    pub expected: Vec<String>,
-    pub found: Vec<String>,
-}
-
-impl fmt::Display for Mismatch {
-    fn fmt(&self, f: &mut fmt::Formatter) -> fmt::Result {
-        writeln!(f, "script {}", hex(&script(&self.calls, &self.tail)))?;
-        for call in &self.calls {
-            writeln!(f, "  {}", describe(call))?;
-        }
-        writeln!(f, "expected:\n{}", self.expected.join("\n"))?;
-        write!(f, "found:\n{}", self.found.join("\n"))
-    }
-}
-
-/// The fixed lists, then `count` random ones.
+/// The fixed lists, then so many random ones.
 pub fn compare(
     program: &impl Answering,
     seed: u64,
-    count: u64,
+    lists: u64,
 ) -> io::Result<Result<Tally, Box<Mismatch>>> {
     let mut tally = Tally::default();
     for calls in pinned_calls::lists() {
@@ -54,9 +32,9 @@ pub fn compare(
             return Ok(Err(Box::new(shortest(program, *mismatch)?)));
         }
     }
-    for case in 0..count {
+    for case in 0..lists {
         let mut random = Random::for_case(seed, case);
-        let length = if case == 0 { CALLS_IN_THE_FIRST } else { CALLS_IN_A_SCRIPT };
+        let length = if case == 0 { CALLS_IN_THE_FIRST } else { CALLS_IN_A_LIST };
         let calls = calls::calls(&mut random, length);
         let tail = tail(&mut random);
         let feed = if case % 8 == 0 { Feed::Pieces(997) } else { Feed::Whole };
@@ -75,8 +53,8 @@ fn compare_script(
     tally: &mut Tally,
 ) -> io::Result<Result<(), Box<Mismatch>>> {
     let printed = program.run(&script(calls, tail), feed)?;
-    let found: Vec<&str> = printed.lines().collect();
-    let mut planner = Planner::empty(Method::Document);
+    let found: Vec<&str> = printed.split_inclusive('\n').collect();
+    let mut planner = Planner::empty(Method::Rules);
     let mut line = 0;
     let differ = |count: usize, tail: &[u8], expected: Vec<String>, found: &[&str]| {
         let found = found.iter().map(|text| text.to_string()).collect();
@@ -84,12 +62,13 @@ fn compare_script(
         Ok(Err(Box::new(Mismatch { calls, tail, expected, found })))
     };
     for (number, call) in calls.iter().enumerate() {
-        let expected = call.run(&mut planner);
+        let lines = call.run(&mut planner);
+        let expected: Vec<String> = lines.iter().map(|text| format!("{text}\n")).collect();
         let end = (line + expected.len()).min(found.len());
         if found[line..end] != expected[..] {
             return differ(number + 1, &[], expected, &found[line..end]);
         }
-        expected.iter().for_each(|text| tally.add(&kind(call, text)));
+        lines.iter().for_each(|text| tally.add(&kind(call, text)));
         line = end;
     }
     if line < found.len() {
@@ -129,25 +108,6 @@ fn shortest(program: &impl Answering, mut mismatch: Mismatch) -> io::Result<Mism
         chunk /= 2;
     }
     Ok(mismatch)
-}
-
-fn script(calls: &[Call], tail: &[u8]) -> Vec<u8> {
-    let mut script: Vec<u8> = calls.iter().flat_map(|call| call.record()).collect();
-    script.extend(tail);
-    script
-}
-
-fn describe(call: &Call) -> String {
-    match call {
-        Call::Load { file } => format!("load of {} bytes {}", file.len(), hex(file)),
-        Call::Link(link) => format!(
-            "link {} to {}, open {}, fixed {}, rate {}",
-            link.sender, link.receiver, link.open, link.fixed, link.rate
-        ),
-        Call::Solve { cells } => format!("solve with {cells} cells"),
-        Call::Read { length } => format!("read into {length} bytes"),
-        Call::Check { plan } => format!("check {}", hex(plan)),
-    }
 }
 
 /// The call and its answer without the figures.

@@ -9,12 +9,14 @@ use crate::compare::program::{Answering, Feed};
 use crate::compare::tally::Tally;
 use crate::decode;
 use crate::exhaustive;
+use crate::generate::queries::Room;
 use crate::hex::hex;
 use crate::listing;
 use crate::method::Method;
+use crate::text;
 
 pub const DEFAULT_SEED: u64 = 1;
-pub const DEFAULT_COUNT: u64 = 3_000;
+pub const DEFAULT_FILES: u64 = 3_000;
 
 /// A file on which the program and the expected answer differ.
 #[derive(Clone, Debug)]
@@ -27,19 +29,20 @@ pub struct Mismatch {
 impl fmt::Display for Mismatch {
     fn fmt(&self, f: &mut fmt::Formatter) -> fmt::Result {
         writeln!(f, "query {}", hex(&self.file))?;
-        writeln!(f, "expected:\n{}", self.expected)?;
+        write!(f, "{}", text::of_file(&self.file))?;
+        write!(f, "expected:\n{}", self.expected)?;
         write!(f, "found:\n{}", self.found)
     }
 }
 
-/// The fixed cases, then `count` random ones.
+/// The fixed files, then so many random ones.
 pub fn compare(
     program: &impl Answering,
     seed: u64,
-    count: u64,
+    files: u64,
 ) -> io::Result<Result<Tally, Box<Mismatch>>> {
     let mut tally = Tally::default();
-    let random = (0..count).map(|case| cases::random_file(seed, case));
+    let random = (0..files).map(|case| cases::random_file(seed, case));
     for (number, file) in cases::fixed().into_iter().chain(random).enumerate() {
         // Now and then in two pieces, as a pipe may bring them.
         let feed = match number % 8 {
@@ -47,7 +50,7 @@ pub fn compare(
             _ => Feed::Whole,
         };
         let found = program.run(&file, feed)?;
-        let expected = listing::listing(&file, Method::Document);
+        let expected = listing::listing(&file, Method::Rules);
         if found != expected {
             return Ok(Err(Box::new(Mismatch { file, expected, found })));
         }
@@ -64,11 +67,14 @@ pub fn compare(
     Ok(Ok(tally))
 }
 
-/// The cheapest cost by exhaustive search, for a query that is small enough.
+/// The cheapest cost by exhaustive search, for a query that is searched at once.
 fn searched(file: &[u8]) -> Option<Option<u64>> {
     let query = decode::decode(file).ok()?;
-    let small = query.relations.len() <= 4 && query.sites.len() <= 3;
-    small.then(|| exhaustive::cheapest(&query).map(|cost| cost.0))
+    if !Room::small().fits(&query) {
+        return None;
+    }
+    let cheapest = exhaustive::cheapest(&query).expect("a small query is searched");
+    Some(cheapest.map(|cost| cost.0))
 }
 
 fn cost_printed(listing: &str) -> Option<u64> {

@@ -33,8 +33,8 @@ impl Program {
 }
 
 impl Answering for Program {
-    /// What it prints; a death by signal is added as a last line, so that it can
-    /// equal no expected answer.
+    /// What it prints; an ending other than 0 is added as a last line, so that it can
+    /// equal no expected answer. A program that cannot start is an error.
     fn run(&self, input: &[u8], feed: Feed) -> io::Result<String> {
         let mut child = Command::new(&self.path)
             .args(&self.arguments)
@@ -52,7 +52,7 @@ impl Answering for Program {
         })?;
         let status = child.wait()?;
         let mut text = String::from_utf8_lossy(&printed).into_owned();
-        if status.code().is_none() {
+        if !status.success() {
             text.push_str(&format!("ended by {status}\n"));
         }
         Ok(text)

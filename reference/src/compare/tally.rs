@@ -13,6 +13,16 @@ impl Tally {
         *self.answers.entry(answer.to_string()).or_default() += 1;
     }
 
+    pub fn add_all(&mut self, other: &Tally) {
+        for (answer, count) in &other.answers {
+            *self.answers.entry(answer.clone()).or_default() += count;
+        }
+    }
+
+    pub fn total(&self) -> usize {
+        self.answers.values().sum()
+    }
+
     pub fn count(&self, answer: &str) -> usize {
         self.answers.get(answer).copied().unwrap_or(0)
     }

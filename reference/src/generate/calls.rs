@@ -13,7 +13,7 @@ use crate::script::Call;
 
 /// A list of calls from an empty planner.
 pub fn calls(random: &mut Random, length: usize) -> Vec<Call> {
-    let mut planner = Planner::empty(Method::Document);
+    let mut planner = Planner::empty(Method::Rules);
     let room = match random.below(3) {
         0 => Room::small(),
         1 => Room { relations: 1..=6, sites: 1..=5 },

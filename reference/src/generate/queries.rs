@@ -17,7 +17,7 @@ pub struct Room {
 }
 
 impl Room {
-    /// All that document 01 allows.
+    /// All that the rules allow.
     pub fn full() -> Room {
         Room { relations: 1..=MOST_RELATIONS as u64, sites: 1..=MOST_SITES as u64 }
     }
@@ -25,6 +25,11 @@ impl Room {
     /// What the exhaustive search does in milliseconds.
     pub fn small() -> Room {
         Room { relations: 1..=4, sites: 1..=3 }
+    }
+
+    pub fn fits(&self, query: &Query) -> bool {
+        self.relations.contains(&(query.relations.len() as u64))
+            && self.sites.contains(&(query.sites.len() as u64))
     }
 }
 

@@ -7,7 +7,16 @@ mod print;
 pub use parse::{parse, Fault};
 pub use print::print;
 
+use crate::decode;
 use crate::sets::{self, Set};
+
+/// A file's query as text, or the number that refuses it; for what a test shows.
+pub fn of_file(file: &[u8]) -> String {
+    match decode::decode(file) {
+        Ok(query) => print(&query),
+        Err(refusal) => format!("refused {}\n", refusal.number()),
+    }
+}
 
 /// The relations of the set, as both directions name it.
 fn names(set: Set) -> String {
