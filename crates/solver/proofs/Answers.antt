@@ -24,14 +24,14 @@ use Rattle.tables.proofs.Most.{delivered-most}
 use Rattle.solver.specs.declared.Solution.{Solution}
 use Rattle.solver.specs.declared.Solution.the-variants.{Found, NoRoute}
 use Rattle.board.specs.Figures.{noneMark, mark}
-use Rattle.cells.specs.Cells.{place}
+use Rattle.filler.specs.Cells.{place}
 use Rattle.board.specs.Board.{BoardOf}
-use Rattle.cells.specs.Trials.{lent}
-use Rattle.cells.specs.Filling.{LaidOut, Filled, Fillable, FilledFrom}
+use Rattle.filler.specs.Trials.{lent}
+use Rattle.filler.specs.Filling.{LaidOut, Filled, Fillable, FilledFrom}
 use Rattle.solver.specs.Solution.{solutionOf, planAfter}
 use Rattle.board.proofs.LaidBoard.{tree-here, drawn-here}
-use Rattle.cells.proofs.Places.{set-low, place-low}
-use Rattle.cells.proofs.SetsFilled.{joins-below}
+use Rattle.filler.proofs.Places.{set-low, place-low}
+use Rattle.filler.proofs.SetsFilled.{joins-below}
 
 -- A cost from its figure.
 marked-number : (c : Cost) (x : ℕ) → x ≡ mark c → x < noneMark → c ≡ some x

@@ -25,11 +25,11 @@ use Rattle.rules.specs.Combine.{Combines}
 use Rattle.board.specs.declared.figures.Choice.{Choice}
 use Rattle.board.specs.Figures.{noneMark, placeOf, ChoiceOf, betterOf, Lanes, Marked}
 use Rattle.board.specs.Board.{endsAt, sideAt, joinsAt, sitesAt}
-use Rattle.cells.specs.Trials.{Lent, sizeIn, trialOf, Triable, joinTrial, Joinable, joinedIn, carriageIn, Carriable, siteTrial, siteIn}
-use Rattle.cells.specs.Filling.{Filled}
+use Rattle.filler.specs.Trials.{Lent, sizeIn, trialOf, Triable, joinTrial, Joinable, joinedIn, carriageIn, Carriable, siteTrial, siteIn}
+use Rattle.filler.specs.Filling.{Filled}
 use Rattle.solver.specs.Writing.{joinsWithin, siteBy, joinBy, Known}
 use Rattle.board.proofs.LeastFigures.{choice-more, choice-same, place-same}
-use Rattle.cells.proofs.Columns as columns
+use Rattle.filler.proofs.Columns as columns
 use Rattle.solver.proofs.Chosen.{within-is}
 
 -- The joins in a set as bits, one more each turn: below 2^m after m of them.

@@ -19,11 +19,11 @@ use Rattle.rules.specs.Combine.{Combines}
 use Rattle.tables.specs.Least.{Best}
 use Rattle.tables.specs.Written.{bestSite, bestJoin}
 use Rattle.board.specs.Board.{joinsAt}
-use Rattle.cells.specs.Trials.{Lent, joinedIn}
-use Rattle.cells.specs.Filling.{LaidOut, Filled}
-use Rattle.cells.proofs.Started.{startCost, started-same}
-use Rattle.cells.proofs.JoinTrials.{joins-kept, joined-is}
-use Rattle.cells.proofs.Columns.{sites-kept}
+use Rattle.filler.specs.Trials.{Lent, joinedIn}
+use Rattle.filler.specs.Filling.{LaidOut, Filled}
+use Rattle.filler.proofs.Started.{startCost, started-same}
+use Rattle.filler.proofs.JoinTrials.{joins-kept, joined-is}
+use Rattle.filler.proofs.Columns.{sites-kept}
 use Rattle.solver.specs.Writing.{joinsWithin, siteBy, joinBy}
 
 module _ (combine : ℕ → ℕ → ℕ) (C : Combines combine) (q : Query) (l : Lent) (laid : LaidOut q l) (S : ℕ) (s : Subquery (q .joins) (relationsOf q) S) where

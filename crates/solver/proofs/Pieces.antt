@@ -12,7 +12,7 @@ use Rattle.query.proofs.Indexed.{one-of-nine}
 use Rattle.rules.specs.Combine.{Combines}
 use Rattle.tables.specs.Written.{sendIfDue, writtenDelivered, writtenJoined, stepBytes}
 use Rattle.board.specs.Board.{sideAt, homesAt}
-use Rattle.cells.specs.Trials.{Lent}
+use Rattle.filler.specs.Trials.{Lent}
 use Rattle.solver.specs.Writing.{Wrote, siteBy, joinBy, ToDeliver, ToJoin}
 use Rattle.solver.proofs.Stores.{wrote-then, room-first, room-next}
 use Rattle.solver.proofs.Choices.{known-low}

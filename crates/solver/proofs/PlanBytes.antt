@@ -20,10 +20,10 @@ use Rattle.tables.proofs.Tables.{ones-some, ByJoin, delivered-found, joined-fou
 use Rattle.tables.proofs.Written.{written-is}
 use Rattle.tables.proofs.StepBytes.{step-bytes-append}
 use Rattle.board.specs.Board.{sideAt, homesAt}
-use Rattle.cells.specs.Trials.{Lent}
+use Rattle.filler.specs.Trials.{Lent}
 use Rattle.solver.specs.Writing.{Wrote, siteBy, joinBy, Known, ToDeliver, ToJoin}
 use Rattle.solver.proofs.Choices.{filled-here}
-use Rattle.cells.proofs.Columns.{part-is}
+use Rattle.filler.proofs.Columns.{part-is}
 use Rattle.solver.proofs.Chosen.{site-is, join-is}
 use Rattle.solver.proofs.Stores.{wrote-none}
 

@@ -18,8 +18,8 @@ use Rattle.tables.specs.Written.{writtenDelivered, writtenSteps, stepBytes, wri
 use Rattle.tables.proofs.Upper.{written-most}
 use Rattle.tables.proofs.StepBytes.{step-bytes-long}
 use Rattle.board.specs.Board.{joinsAt}
-use Rattle.cells.specs.Trials.{Lent}
-use Rattle.cells.specs.Filling.{LaidOut, Filled}
+use Rattle.filler.specs.Trials.{Lent}
+use Rattle.filler.specs.Filling.{LaidOut, Filled}
 use Rattle.solver.specs.Writing.{Wrote, ToDeliver}
 use Rattle.solver.proofs.Stores.{plan-stored}
 

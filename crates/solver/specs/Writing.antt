@@ -14,8 +14,8 @@ use Rattle.query.specs.Query.{relationsOf, sitesOf}
 use Rattle.tables.specs.Tables.{delivered, joined}
 use Rattle.board.specs.Figures.{placeOf}
 use Rattle.board.specs.Board.{endsAt, joinsAt}
-use Rattle.cells.specs.Trials.{Lent, sizeIn, joinTrial, joinedIn, siteIn}
-use Rattle.cells.specs.Filling.{LaidOut, Filled}
+use Rattle.filler.specs.Trials.{Lent, sizeIn, joinTrial, joinedIn, siteIn}
+use Rattle.filler.specs.Filling.{LaidOut, Filled}
 
 -- The joins in S among the first m, as bits, by their ends on the board.
 unfoldable pub joinsWithin : List ℕ → ℕ → ℕ → ℕ

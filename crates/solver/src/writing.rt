@@ -7,10 +7,10 @@ use board::homes_at;
 use board::joins_of;
 use board::side_at;
 use board::sites_of;
-use cells::carriage;
-use cells::joined_row;
-use cells::size_of;
-use cells::trial;
+use filler::carriage;
+use filler::joined_row;
+use filler::size_of;
+use filler::trial;
 use query::Bytes;
 use relations::SETS;
 use relations::bit;
@@ -30,8 +30,8 @@ ghost use Rattle.tables.specs.Tables.{cheapest};
 ghost use Rattle.tables.specs.Written.{sendIfDue, writtenDelivered, writtenJoined, stepBytes, written};
 ghost use Rattle.board.specs.Figures.{Marked};
 ghost use Rattle.board.specs.Board.{joinsAt};
-ghost use Rattle.cells.specs.Trials.{lent, Carriable, siteIn};
-ghost use Rattle.cells.specs.Filling.{LaidOut, Filled};
+ghost use Rattle.filler.specs.Trials.{lent, Carriable, siteIn};
+ghost use Rattle.filler.specs.Filling.{LaidOut, Filled};
 ghost use Rattle.solver.specs.Writing.{joinsWithin, Wrote, ToDeliver, ToJoin, siteBy, joinBy};
 
 // Writes a step: its kind and its argument.

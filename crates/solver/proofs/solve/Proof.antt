@@ -9,8 +9,8 @@ use Rattle.query.specs.declared.Query.{Query}
 use Rattle.query.specs.Cost.{some}
 use Rattle.rules.proofs.Combinations.{plus-combines}
 use Rattle.tables.specs.Tables.{cheapest}
-use Rattle.cells.specs.Trials.{lent}
-use Rattle.cells.specs.Filling.{Fillable, FilledFrom}
+use Rattle.filler.specs.Trials.{lent}
+use Rattle.filler.specs.Filling.{Fillable, FilledFrom}
 use Rattle.board.proofs.LaidBoard.{drawn-here}
 use Rattle.solver.proofs.Answers.{all-low, place-here, cheapest-number, cheapest-none, laid-here, fillable-here, trials-few, answer-found, answer-none}
 use Rattle.solver.proofs.solve.Statement.{statement}

@@ -1,4 +1,4 @@
--- `cells::better` meets its contract: each arm is a case of the definition. Assumes nothing.
+-- `figures::better` meets its contract: each arm is a case of the definition. Assumes nothing.
 use borrow.Author.Needs.{needs}
 use Rattle.board.proofs.LeastFigures.{better-new, better-kept}
 use Rattle.board.proofs.figures.better.Statement.{statement}

@@ -4,7 +4,7 @@ use lib.Bits.{and-le-l}
 use borrow.Author.Needs.{needs}
 use Rattle.rules.proofs.Combinations.{plus-combines}
 use Rattle.board.specs.Figures.{ChoiceOf}
-use Rattle.cells.specs.Trials.{lent, joinTrial}
+use Rattle.filler.specs.Trials.{lent, joinTrial}
 use Rattle.board.proofs.LeastFigures.{choice-none}
 use Rattle.solver.proofs.Choices.{few-joins, triable, join-better, join-worse, join-by}
 use Rattle.solver.proofs.writing.last_join.Statement.{statement}

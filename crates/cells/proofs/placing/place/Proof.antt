@@ -1,8 +1,0 @@
--- `cells::place` meets its contract: below 512 sets of eight cells, no place leaves a word. Assumes nothing.
-use borrow.Author.Needs.{needs}
-use Rattle.cells.proofs.Places.{place-is}
-use Rattle.cells.proofs.placing.place.Statement.{statement}
-use Rattle.cells.proofs.placing.place.Tie as tie
-
-pub place-spec : {M : Type 1} → statement M
-place-spec = tie.close (tie.spec (λ c. search needs) (λ c. search needs) (λ c. search (needs, place-is)))

@@ -1,0 +1,85 @@
+-- The two parts of a subquery by a join in it, with their cells filled: what a trial of them asks.
+use Prim.Native.Nat.{ℕ, _+_, _-_, _^_, _≤_, _<_}
+use native.Mathlib.Omega.{arith}
+use mathlib.Core.Path.{_≡_, sym, ap, subst, _∙_}
+use mathlib.Core.Bool.{true}
+use lib.Bits.{bitAnd}
+use lib.Pow.{pow-mono}
+use Rattle.relations.specs.Growth.{inside}
+use Rattle.relations.specs.Trees.{Subquery}
+use Rattle.relations.specs.Theorems.{Split}
+use Rattle.relations.specs.Table.{joinBits}
+use Rattle.relations.proofs.Connected.{subquery-range}
+use Rattle.relations.proofs.Entries.{bits-below, join-of-bit}
+use Rattle.relations.proofs.Splits.{split, part-by-side, Smaller, split-smaller}
+use Rattle.query.specs.declared.Query.{Query}
+use Rattle.query.specs.Query.{relationsOf}
+use Rattle.rules.specs.Combine.{Combines}
+use Rattle.tables.specs.Tables.{firstPart, otherPart, delivered}
+use Rattle.tables.specs.Theorems.{mostCost}
+use Rattle.tables.proofs.Most.{delivered-most}
+use Rattle.board.specs.Figures.{mark}
+use Rattle.board.specs.Board.{sideAt}
+use Rattle.filler.specs.Trials.{Lent, cellIn, Triable, Joinable}
+use Rattle.filler.specs.Filling.{LaidOut, Filled}
+use Rattle.filler.proofs.Marks.{UpToOr, up-to-is, mark-most}
+use Rattle.filler.proofs.Boards.{place-within, priced}
+
+-- The part that the side of a join gives.
+pub part-of : (q : Query) (l : Lent) → LaidOut q l → (S : ℕ) → Subquery (q .joins) (relationsOf q) S → (e : ℕ) → e < q .joins .count →
+    inside (q .joins) S e ≡ true → bitAnd S (sideAt (l .board) e) ≡ firstPart q S e
+part-of q l laid S s e h within =
+    ap (bitAnd S) (laid .board .sides e h) ∙ sym (part-by-side (q .joins) (relationsOf q) (laid .valid .tree) S e s h within)
+
+module _ (combine : ℕ → ℕ → ℕ) (C : Combines combine) (q : Query) (l : Lent) (laid : LaidOut q l) (S : ℕ) (s : Subquery (q .joins) (relationsOf q) S)
+    (filled : Filled combine q (l .work) S) where
+  pub delivered-up-to : (P k : ℕ) → Subquery (q .joins) (relationsOf q) P → UpToOr mostCost (delivered combine q P k)
+  delivered-up-to P k p = up-to-is mostCost (delivered combine q P k) (λ c e. delivered-most combine C q (laid .valid) P k c p e)
+
+  -- What is known of the two parts.
+  pub record Parts (P R k : ℕ) : Type 0 where
+    pub site-in : k < 8
+    pub whole : P + R ≡ S
+    pub first-part : Subquery (q .joins) (relationsOf q) P
+    pub second-part : Subquery (q .joins) (relationsOf q) R
+    pub first-low : P < 2 ^ relationsOf q
+    pub second-low : R < 2 ^ relationsOf q
+    pub first-cell : cellIn l P k ≡ mark (delivered combine q P k)
+    pub second-cell : cellIn l R k ≡ mark (delivered combine q R k)
+
+  pub parts-of : (e k : ℕ) → e < q .joins .count → inside (q .joins) S e ≡ true → k < 8 → Parts (firstPart q S e) (otherPart q S e) k
+  parts-of e k h within site =
+      let parts : Split (q .joins) (relationsOf q) S e = split (q .joins) (relationsOf q) (laid .valid .tree) S e s h within in
+      let small : Smaller S (firstPart q S e) (otherPart q S e) = split-smaller (q .joins) (relationsOf q) S e parts in
+      record {
+        site-in = site;
+        whole = parts .whole;
+        first-part = parts .first-part;
+        second-part = parts .second-part;
+        first-low = subquery-range (q .joins) (relationsOf q) (firstPart q S e) (parts .first-part) .1;
+        second-low = subquery-range (q .joins) (relationsOf q) (otherPart q S e) (parts .second-part) .1;
+        first-cell = filled .each (firstPart q S e) k (small .first-less) (parts .first-part) site;
+        second-cell = filled .each (otherPart q S e) k (small .second-less) (parts .second-part) site;
+      }
+
+  triable : (P R k : ℕ) → Parts P R k → Triable l P R k
+  triable P R k p =
+      let low : S < 2 ^ relationsOf q = subquery-range (q .joins) (relationsOf q) S s .1 in
+      record {
+        priced = priced q l laid P R k (p .first-low) (p .second-low) (omega (arith, p .whole)) (p .site-in);
+        first-place = place-within q (laid .valid) (l .work) P k (filled .room) (p .first-low) (p .site-in);
+        second-place = place-within q (laid .valid) (l .work) R k (filled .room) (p .second-low) (p .site-in);
+        first-cell = rw (p .first-cell) (mark-most mostCost (delivered combine q P k) (omega arith) (delivered-up-to P k (p .first-part)));
+        second-cell = rw (p .second-cell) (mark-most mostCost (delivered combine q R k) (omega arith) (delivered-up-to R k (p .second-part)));
+      }
+
+  -- What the joins of S ask.
+  pub joinable : Joinable l (joinBits (q .joins) S (q .joins .count)) S
+  joinable =
+      let most : 2 ^ q .joins .count ≤ 2 ^ 8 = pow-mono {j = 8} (omega (arith, laid .valid .tree .joins, laid .valid .relations-most)) in
+      record {
+        few = omega (arith, bits-below (q .joins) S (q .joins .count));
+        each = λ e k low site one. let found = join-of-bit (q .joins) S (q .joins .count) e one in
+            subst (λ (P : ℕ). Triable l P (S - P) k) (sym (part-of q l laid S s e (found .0) (found .1)))
+            (triable (firstPart q S e) (otherPart q S e) k (parts-of e k (found .0) (found .1) site));
+      }

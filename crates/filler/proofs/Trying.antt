@@ -1,0 +1,67 @@
+-- What a price, a trial and a carriage come to, and that their sums keep far below a word's limit.
+use Prim.Native.Nat.{ℕ, _+_, _*_, _≤_, _<_, zero-le}
+use native.Mathlib.Nat.{le-refl}
+use native.Mathlib.Omega.{arith}
+use mathlib.Core.Path.{_≡_, sym, _∙_}
+use mathlib.Core.Bool.{Bool, true, false}
+use mathlib.Core.List.{List}
+use lib.Dec.{eqb}
+use lib.ListN.{getD}
+use borrow.Author.Tests.{eq-eqb, ne-eqb}
+use Rattle.relations.specs.Sets.{bit}
+use Rattle.query.specs.Choice.{pick}
+use Rattle.query.specs.Masks.{IsMask}
+use Rattle.query.specs.Prices.{reads}
+use Rattle.board.specs.Figures.{noneMark}
+use Rattle.filler.specs.Cells.{place}
+use Rattle.board.specs.Board.{fixedAt, rateAt, countedAt, lineFixedAt, lineRateAt, sitesAt}
+use Rattle.filler.specs.Trials.{Lent, priceIn, Priced, trialOf, Triable, bareAt, carriageIn, Carriable}
+
+-- The price of a join: its masks and sizes as they are read.
+module _ (b sizes : List ℕ) (P R k m n x y : ℕ) (p : Priced b sizes P R k) (em : m ≡ countedAt b P k) (en : n ≡ countedAt b R k) (ex : x ≡ getD sizes P 0)
+    (ey : y ≡ getD sizes R 0) where
+  pub reads-ask : (IsMask m × (x ≤ 1_000_000_000)) × (IsMask n × (y ≤ 1_000_000_000))
+  reads-ask = rw (em, en, ex, ey) ((p .first-mask, p .sizes-most P), (p .second-mask, p .sizes-most R))
+
+  pub price-is : (r read z : ℕ) → read ≡ reads (eqb m 0) x (eqb n 0) y → z ≡ getD sizes (P + R) 0 → r ≡ fixedAt b k + rateAt b k * (read + z) →
+      r ≡ priceIn b sizes P R k
+  price-is r read z er ez e = e ∙ rw (er, ez, em, en, ex, ey)
+
+pub price-asks : (b sizes : List ℕ) (P R k read z : ℕ) → Priced b sizes P R k → read ≤ 2_000_000_000 → z ≡ getD sizes (P + R) 0 →
+    (fixedAt b k ≤ noneMark) × ((rateAt b k ≤ 1_000) × ((read ≤ 2_000_000_000) × (z ≤ 1_000_000_000)))
+price-asks b sizes P R k read z p h e = (p .fixed-most, (p .rate-most, (h, rw e (p .sizes-most (P + R)))))
+
+-- A trial: two cells and a price.
+module _ (l : Lent) (P R k a b : ℕ) (ea : a ≡ place P k) (eb : b ≡ place R k) where
+  pub both-most : Triable l P R k → getD (l .work) a 0 + getD (l .work) b 0 ≤ 2 * noneMark
+  both-most t = rw (ea, eb) (omega (arith, t .first-cell, t .second-cell))
+
+  pub trial-is : (both price : ℕ) → both ≡ getD (l .work) a 0 + getD (l .work) b 0 → price ≡ priceIn (l .board) (l .sizes) P R k → both + price ≡ trialOf _+_ l P R k
+  unfolding trialOf
+  trial-is both price e f = rw (e, f, ea, eb)
+
+-- A carriage.
+pub carriage-asks : (b : List ℕ) (size k t : ℕ) → Carriable b size → k < sitesAt b → t < 8 →
+    (lineFixedAt b k t ≤ noneMark) × ((lineRateAt b k t ≤ 1_000) × (size ≤ 1_000_000_000))
+carriage-asks b size k t p h g = (p .fixed-most k t h g, (p .rate-most k t h g, p .size-most))
+
+pub carriage-is : (b : List ℕ) (size k t r : ℕ) → r ≡ lineFixedAt b k t + lineRateAt b k t * size → r ≡ carriageIn b size k t
+unfolding carriageIn
+carriage-is b size k t r e = e
+
+-- The row of one relation.
+pub stands-is : (homes k b : ℕ) → b ≡ bit homes k → b ≡ 1 → 0 ≡ bareAt homes k
+unfolding bareAt
+stands-is homes k b is one = rw (eq-eqb (bit homes k) 1 (sym is ∙ one))
+
+pub stands-not : (homes k b : ℕ) → b ≡ bit homes k → (b ≡ 1 → ⊥) → noneMark ≡ bareAt homes k
+unfolding bareAt
+stands-not homes k b is other = rw (ne-eqb (bit homes k) 1 (λ e. other (is ∙ e)))
+
+pub bare-most : (homes k : ℕ) → bareAt homes k ≤ noneMark
+unfolding bareAt
+bare-most homes k = go (eqb (bit homes k) 1)
+  where
+    go : (t : Bool) → pick t 0 noneMark ≤ noneMark
+    go true = zero-le
+    go false = le-refl _

@@ -1,0 +1,8 @@
+-- `placing::place` meets its contract: below 512 sets of eight cells, no place leaves a word. Assumes nothing.
+use borrow.Author.Needs.{needs}
+use Rattle.filler.proofs.Places.{place-is}
+use Rattle.filler.proofs.placing.place.Statement.{statement}
+use Rattle.filler.proofs.placing.place.Tie as tie
+
+pub place-spec : {M : Type 1} → statement M
+place-spec = tie.close (tie.spec (λ c. search needs) (λ c. search needs) (λ c. search (needs, place-is)))

@@ -1,0 +1,106 @@
+-- What a trial is: two parts of a subquery, each delivered at a site, and the price of their join there. And the rows of figures that the loops
+-- work out from trials and lines. `proofs/` shows that those figures are the two tables'.
+use Prim.Native.Nat.{ℕ, _+_, _-_, _≤_, _<_}
+use mathlib.Core.Path.{_≡_}
+use mathlib.Core.List.{List}
+use lib.Bits.{bitAnd}
+use lib.Count.{trailingZeros}
+use lib.Dec.{eqb}
+use lib.ListN.{length, getD}
+use Rattle.relations.specs.Code.{mostSets}
+use Rattle.relations.specs.Sets.{bit}
+use Rattle.query.specs.Choice.{pick}
+use Rattle.query.specs.Query.{UpTo}
+use Rattle.query.specs.Prices.{lineCharge, reads, joinCharge}
+use Rattle.query.specs.Masks.{IsMask}
+use Rattle.board.specs.Figures.{noneMark, leastOf, placeOf}
+use Rattle.filler.specs.Cells.{place}
+use Rattle.board.specs.Board.{sideAt, fixedAt, rateAt, countedAt, lineFixedAt, lineRateAt, homesAt, sitesAt}
+
+-- What the loops are lent: the board, the sizes and the work area.
+pub record Lent : Type 0 where
+  pub board : List ℕ
+  pub sizes : List ℕ
+  pub work : List ℕ
+
+abbrev pub lent : (board sizes work : List ℕ) → Lent
+lent board sizes work = record { board = board; sizes = sizes; work = work }
+
+abbrev pub sizeIn : Lent → ℕ → ℕ
+sizeIn l S = getD (l .sizes) S 0
+
+abbrev pub cellIn : Lent → ℕ → ℕ → ℕ
+cellIn l S k = getD (l .work) (place S k) 0
+
+-- The price of joining P and R at site k: the fixed amount, and the rate for what is read and for the result.
+abbrev pub priceIn : (board sizes : List ℕ) → (P R k : ℕ) → ℕ
+priceIn b sizes P R k =
+    joinCharge (fixedAt b k) (rateAt b k) (reads (eqb (countedAt b P k) 0) (getD sizes P 0) (eqb (countedAt b R k) 0) (getD sizes R 0)) (getD sizes (P + R) 0)
+
+-- What a price asks.
+pub record Priced (b sizes : List ℕ) (P R k : ℕ) : Type 0 where
+  pub site-in : k < 8
+  pub set-in : P + R < mostSets
+  pub fixed-most : fixedAt b k ≤ noneMark
+  pub rate-most : rateAt b k ≤ 1_000
+  pub first-mask : IsMask (countedAt b P k)
+  pub second-mask : IsMask (countedAt b R k)
+  pub sizes-most : UpTo 1_000_000_000 sizes
+
+-- The trial of joining P and R at site k.
+unfoldable pub trialOf : (ℕ → ℕ → ℕ) → Lent → (P R k : ℕ) → ℕ
+trialOf combine l P R k = combine (cellIn l P k) (cellIn l R k) + priceIn (l .board) (l .sizes) P R k
+
+-- What a trial asks, so that its sums keep below 2^62.
+pub record Triable (l : Lent) (P R k : ℕ) : Type 0 where
+  pub priced : Priced (l .board) (l .sizes) P R k
+  pub first-place : place P k < length (l .work)
+  pub second-place : place R k < length (l .work)
+  pub first-cell : cellIn l P k ≤ noneMark
+  pub second-cell : cellIn l R k ≤ noneMark
+
+-- The part of S on the first relation's side of join e.
+abbrev pub partBy : Lent → ℕ → ℕ → ℕ
+partBy l S e = bitAnd S (sideAt (l .board) e)
+
+-- The figure of join e of S at site k, the joins in S given as bits: none where e is not among them.
+unfoldable pub joinTrial : (ℕ → ℕ → ℕ) → Lent → (joins S k e : ℕ) → ℕ
+joinTrial combine l joins S k e = pick (eqb (bit joins e) 1) (trialOf combine l (partBy l S e) (S - partBy l S e) k) noneMark
+
+-- What the joins of a set ask.
+pub record Joinable (l : Lent) (joins S : ℕ) : Type 0 where
+  pub few : joins < 256
+  pub each : (e k : ℕ) → e < 8 → k < 8 → bit joins e ≡ 1 → Triable l (partBy l S e) (S - partBy l S e) k
+
+-- The row of the joins: the least at each site.
+abbrev pub joinedIn : (ℕ → ℕ → ℕ) → Lent → (joins S k : ℕ) → ℕ
+joinedIn combine l joins S k = leastOf (joinTrial combine l joins S k) 8
+
+-- The row of one relation: nothing where it stands, none elsewhere.
+unfoldable pub bareAt : ℕ → ℕ → ℕ
+bareAt homes k = pick (eqb (bit homes k) 1) 0 noneMark
+
+-- What S has cost at k where it can start from there: where its one relation stands, else where it is joined.
+unfoldable pub startIn : (ℕ → ℕ → ℕ) → Lent → (joins S k : ℕ) → ℕ
+startIn combine l joins S k = pick (eqb joins 0) (bareAt (homesAt (l .board) (trailingZeros 64 S)) k) (joinedIn combine l joins S k)
+
+-- The carriage of a size from site k to site t.
+unfoldable pub carriageIn : List ℕ → (size k t : ℕ) → ℕ
+carriageIn b size k t = lineCharge (lineFixedAt b k t) (lineRateAt b k t) size
+
+-- What carriages ask.
+pub record Carriable (b : List ℕ) (size : ℕ) : Type 0 where
+  pub few : sitesAt b ≤ 8
+  pub fixed-most : (k t : ℕ) → k < sitesAt b → t < 8 → lineFixedAt b k t ≤ noneMark
+  pub rate-most : (k t : ℕ) → k < sitesAt b → t < 8 → lineRateAt b k t ≤ 1_000
+  pub size-most : size ≤ 1_000_000_000
+
+-- The figure at t by way of site k, from what has been spent at each site; the least of these, and the lowest site of it.
+unfoldable pub siteTrial : (ℕ → ℕ) → List ℕ → (size t k : ℕ) → ℕ
+siteTrial row b size t k = row k + carriageIn b size k t
+
+abbrev pub deliveredIn : (ℕ → ℕ) → List ℕ → (size t : ℕ) → ℕ
+deliveredIn row b size t = leastOf (siteTrial row b size t) (sitesAt b)
+
+abbrev pub siteIn : (ℕ → ℕ) → List ℕ → (size t : ℕ) → ℕ
+siteIn row b size t = placeOf (siteTrial row b size t) (sitesAt b)
