@@ -1,7 +1,7 @@
 -- One law for each way through the report server's call: what the answer of each call makes of the definition.
 use Prim.Native.Nat.{ℕ, _+_, _≤_}
 use native.Mathlib.Omega.{arith}
-use mathlib.Core.Path.{_≡_, refl, ap, _∙_}
+use mathlib.Core.Path.{_≡_, refl}
 use mathlib.Core.Bool.{Bool, true, false}
 use mathlib.Core.List.{List}
 use mathlib.Core.Option.{Option, none, some}
@@ -91,20 +91,17 @@ module _ (a : SolveAnswer) (p : Planner) (s : State) (n : ℕ) (done : doneOf (o
 
   -- It had as many cells as are needed.
   module _ (enough : needed (s .query) ≤ n) where
-    as-needed : doneOf (ofSolve a) p ≡ solve (needed (s .query)) s
-    as-needed = done ∙ solve-enough n s enough
-
     pub solve-found : (c : Charge) (t k : ℕ) (new out : List ℕ) → a ≡ SolveAnswer.Found c t → served k new ≡ serveRead (stateOf p) out → served k new ≡ serveSolve s out
     unfolding serveSolve
-    solve-found c t k new out is e = rw (← as-needed, is) e
+    solve-found c t k new out is e = rw (← solve-enough n s enough, ← done, is) e
 
     pub solve-none : (t : ℕ) (out : List ℕ) → a ≡ SolveAnswer.NoRoute t → served 0 out ≡ serveSolve s out
     unfolding serveSolve
-    solve-none t out is = rw (← as-needed, is)
+    solve-none t out is = rw (← solve-enough n s enough, ← done, is)
 
     pub solve-refused : (k m : ℕ) (out : List ℕ) → a ≡ SolveAnswer.Refused k → m ≡ 256 + k → served m out ≡ serveSolve s out
     unfolding serveSolve
-    solve-refused k m out is e = rw (← as-needed, is, e)
+    solve-refused k m out is e = rw (← solve-enough n s enough, ← done, is, e)
 
 -- A query that was loaded, on an empty planner, is solved; else the output stays.
 abbrev loadRefusal : Load.Answer → ℕ
@@ -120,19 +117,16 @@ load-low file s = go (decode file) (decode-refusals file)
     go (value q l) h = omega arith
 
 module _ (a : LoadAnswer) (p first : Planner) (query : List ℕ) (empty : stateOf first ≡ nothing) (done : doneOf (ofLoad a) p ≡ load query (stateOf first)) where
-  same : doneOf (ofLoad a) p ≡ load query nothing
-  same = done ∙ ap (load query) empty
-
   pub load-goes : (n m r : ℕ) (new out : List ℕ) → a ≡ LoadAnswer.Loaded n m → served r new ≡ serveSolve (stateOf p) out → served r new ≡ serve query out
   unfolding serve
-  load-goes n m r new out is e = rw (← same, is) e
+  load-goes n m r new out is e = rw (← empty, ← done, is) e
 
   pub load-refused : (k r : ℕ) (out : List ℕ) → a ≡ LoadAnswer.Refused k → r ≡ 256 + k → served r out ≡ serve query out
   unfolding serve
-  load-refused k r out is e = rw (← same, is, e)
+  load-refused k r out is e = rw (← empty, ← done, is, e)
 
   pub load-byte : (k : ℕ) → a ≡ LoadAnswer.Refused k → k ≤ 255
-  load-byte k is = rw (← same, is) at (load-low query nothing)
+  load-byte k is = rw (← done, is) at (load-low query (stateOf first))
 
 pub ruleset reading-laws = (read-wrote, read-refused, read-byte)
 

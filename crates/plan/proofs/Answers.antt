@@ -31,20 +31,17 @@ use Rattle.plan.specs.Lines.{steps, linesSolved, lines}
 
 -- Solve's answer, by as many cells as are needed.
 module _ (a : SolveAnswer) (p : Planner) (s : State) (n : ℕ) (done : doneOf (ofSolve a) p ≡ solve n s) (enough : needed (s .query) ≤ n) where
-  as-needed : doneOf (ofSolve a) p ≡ solve (needed (s .query)) s
-  as-needed = done ∙ solve-enough n s enough
-
   pub solve-none : (t r : ℕ) → a ≡ SolveAnswer.NoRoute t → r ≡ 1 → r ≡ linesSolved s
   unfolding linesSolved
-  solve-none t r is e = rw (← as-needed, is) e
+  solve-none t r is e = rw (← solve-enough n s enough, ← done, is) e
 
   pub solve-refused : (k r : ℕ) → a ≡ SolveAnswer.Refused k → r ≡ 1 → r ≡ linesSolved s
   unfolding linesSolved
-  solve-refused k r is e = rw (← as-needed, is) e
+  solve-refused k r is e = rw (← solve-enough n s enough, ← done, is) e
 
   pub solve-found : (c : Charge) (t r : ℕ) → a ≡ SolveAnswer.Found c t → r ≡ 1 + steps (stateOf p .kept) → r ≡ linesSolved s
   unfolding linesSolved
-  solve-found c t r is e = rw (← as-needed, is) e
+  solve-found c t r is e = rw (← solve-enough n s enough, ← done, is) e
 
 -- A state with a query and a plan kept for it.
 record Holding (s : State) : Type 0 where
@@ -123,15 +120,12 @@ pub ruleset solving-laws = (solve-none, solve-refused, found-listed, found-refus
 
 -- Load's answer, on an empty planner.
 module _ (a : LoadAnswer) (p first : Planner) (file : List ℕ) (empty : stateOf first ≡ nothing) (done : doneOf (ofLoad a) p ≡ load file (stateOf first)) where
-  same : doneOf (ofLoad a) p ≡ load file nothing
-  same = done ∙ ap (load file) empty
-
   pub load-goes : (n m r : ℕ) → a ≡ LoadAnswer.Loaded n m → r ≡ linesSolved (stateOf p) → r ≡ lines file
   unfolding lines
-  load-goes n m r is e = rw (← same, is) e
+  load-goes n m r is e = rw (← empty, ← done, is) e
 
   pub load-refused : (k r : ℕ) → a ≡ LoadAnswer.Refused k → r ≡ 1 → r ≡ lines file
   unfolding lines
-  load-refused k r is e = rw (← same, is) e
+  load-refused k r is e = rw (← empty, ← done, is) e
 
 pub ruleset loading-laws = (load-goes, load-refused)

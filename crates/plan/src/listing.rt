@@ -7,6 +7,7 @@ use planner::LoadAnswer;
 use planner::Planner;
 use planner::ReadAnswer;
 use planner::SolveAnswer;
+use relations::wide;
 ghost use Prim.Native.Nat.{_+_, _<_};
 ghost use mathlib.Core.Path.{_≡_};
 ghost use lib.ListN.{getD};
@@ -59,13 +60,6 @@ fn step(kind: u8, arg: u8) -> bool {
 // The byte at a place, 0 past the end.
 fn byte_at(plan: &[u8], i: usize) -> u8 {
     if i < plan.len() { plan[i] } else { 0 }
-}
-
-// A byte as a number.
-fn wide(x: u8) -> usize
-    ensures { λ r. ⌜ (r ≡ x) × (r < 256) ⌝ }
-{
-    x as usize
 }
 
 // The steps of a plan, so many of them.

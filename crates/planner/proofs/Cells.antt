@@ -11,7 +11,7 @@ use Rattle.query.specs.declared.Query.{Query}
 use Rattle.tables.specs.Work.{cellsNeeded}
 use Rattle.planner.specs.declared.Planner.{Planner}
 use Rattle.planner.specs.State.{State}
-use Rattle.planner.specs.Solve.{solveQuery, solve, needed}
+use Rattle.planner.specs.Solve.{solveQuery, solve, needed, solveNeeded}
 use Rattle.planner.specs.Contracts.{stateOf}
 
 -- The code's constant `CELLS`.
@@ -40,7 +40,7 @@ pub cells-later :
 cells-later p new old loaded e = rw loaded e
 
 -- Cells past the needed ones change neither the answer nor the state.
-pub solve-enough : (n : ℕ) (s : State) → needed (s .query) ≤ n → solve n s ≡ solve (needed (s .query)) s
+pub solve-enough : (n : ℕ) (s : State) → needed (s .query) ≤ n → solve n s ≡ solveNeeded s
 unfolding solve
 solve-enough n s = go (s .query)
   where
