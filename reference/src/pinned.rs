@@ -1,5 +1,5 @@
 //! Queries that are pinned by name: Q of the rules and the rows made from it, and
-//! the vectors from the sources.
+//! the vectors from the papers.
 
 use crate::query::{Line, Query, Relation, Site};
 use crate::tree::{self, Join};

@@ -34,7 +34,7 @@ def pinned():
 
 
 def larger():
-    # source document 000's chain of five
+    # the chain of five of examples/chain-of-five.txt
     five = {1: 100, 2: 400, 3: 80, 4: 700, 6: 311, 7: 62, 8: 1100, 12: 481, 14: 214, 15: 43, 16: 1600, 24: 733, 28: 321, 30: 143, 31: 29}
     query = file([FREE] * 6, [(r, 0) for r in range(5)], chain(5), five.get, every(1, 10, 1), 5)
     yield from found(query, "load 5 15", "solve 364 120", "l0 s1 l1 j0 s2 l2 j1 s3 l3 j2 s4 l4 j3 s5")
