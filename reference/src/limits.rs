@@ -5,9 +5,11 @@ pub const MOST_RELATIONS: usize = 9;
 pub const MOST_SIZE: u64 = 1_000_000_000;
 pub const MOST_FIXED: u64 = 1_000_000;
 pub const MOST_RATE: u64 = 1_000;
+/// The bytes of a full parcel.
+pub const PARCEL: u64 = 8;
 pub const MOST_STEPS: usize = 34;
 pub const LONGEST_FILE: usize = 1_674;
 /// Cells that solve needs, and the only ones that it may write.
 pub const WORK_CELLS: usize = 4_096;
 /// No allowed plan costs more.
-pub const DEAREST_PLAN: u64 = 41_000_025_000_000;
+pub const DEAREST_PLAN: u64 = 26_125_025_000_000;

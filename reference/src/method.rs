@@ -1,6 +1,11 @@
 //! How the tables are filled: as the rules say, or in one of the ways that nearly
 //! work. The wrong ways are here so that the tests can be seen to tell them apart.
 
+use crate::limits::PARCEL;
+use crate::prices;
+use crate::query::{Line, Site};
+use crate::units::{Bytes, Charge, Parcels};
+
 #[derive(Clone, Copy, Debug, PartialEq, Eq)]
 pub enum Method {
     /// As the rules say.
@@ -15,6 +20,16 @@ pub enum Method {
     OtherDirection,
     /// None is the largest number, and a sum with it wraps.
     WrappingNone,
+    /// A line charges for each byte.
+    LinesByTheByte,
+    /// A parcel that is not full goes for nothing.
+    FullParcelsOnly,
+    /// No bytes take a parcel too.
+    ParcelForNothing,
+    /// No bytes are sent without the fixed amount.
+    NothingSentForNothing,
+    /// A join charges for parcels too.
+    JoinsByTheParcel,
     /// Among equal sites takes the highest.
     HighestSite,
     /// Among equal joins takes the highest.
@@ -27,12 +42,17 @@ pub enum Method {
 
 impl Method {
     /// The planners that nearly work of docs/RULES.md, 11.
-    pub const NEARLY_WORKING: [Method; 5] = [
+    pub const NEARLY_WORKING: [Method; 10] = [
         Method::OnlyHomes,
         Method::SingleOperand,
         Method::IndexAfterSend,
         Method::OtherDirection,
         Method::WrappingNone,
+        Method::LinesByTheByte,
+        Method::FullParcelsOnly,
+        Method::ParcelForNothing,
+        Method::NothingSentForNothing,
+        Method::JoinsByTheParcel,
     ];
 
     /// Ways that cost the same and write another plan.
@@ -44,6 +64,27 @@ impl Method {
         Method::NEARLY_WORKING.into_iter().chain(Method::OTHERWISE_WRITTEN)
     }
 
+    /// What sending a result of this size over the line costs.
+    pub fn send(self, line: &Line, size: Bytes) -> Charge {
+        match self {
+            Method::LinesByTheByte => line.fixed + line.rate * size,
+            Method::FullParcelsOnly => line.fixed + line.rate * Parcels(size.0 / PARCEL),
+            Method::ParcelForNothing => prices::send(line, size.max(Bytes(1))),
+            Method::NothingSentForNothing if size == Bytes(0) => Charge(0),
+            _ => prices::send(line, size),
+        }
+    }
+
+    /// What joining at the site costs, by what is read and by the result's size.
+    pub fn join(self, site: &Site, read_one: Bytes, read_other: Bytes, together: Bytes) -> Charge {
+        match self {
+            Method::JoinsByTheParcel => {
+                site.fixed + site.rate * prices::parcels(read_one + read_other + together)
+            }
+            _ => prices::join(site, read_one, read_other, together),
+        }
+    }
+
     pub fn name(self) -> &'static str {
         match self {
             Method::Rules => "rules",
@@ -52,6 +93,11 @@ impl Method {
             Method::IndexAfterSend => "index-after-send",
             Method::OtherDirection => "other-direction",
             Method::WrappingNone => "wrapping-none",
+            Method::LinesByTheByte => "lines-by-the-byte",
+            Method::FullParcelsOnly => "full-parcels-only",
+            Method::ParcelForNothing => "parcel-for-nothing",
+            Method::NothingSentForNothing => "nothing-sent-for-nothing",
+            Method::JoinsByTheParcel => "joins-by-the-parcel",
             Method::HighestSite => "highest-site",
             Method::HighestJoin => "highest-join",
             Method::AskedSiteFirst => "asked-site-first",

@@ -1,6 +1,6 @@
 //! Fixed lists of calls for the places of the rules that are easily misread: state
 //! before input, what a refusal leaves standing, wide arguments, every refusal of check
-//! with its place.
+//! with its place; sizes at and beside full parcels.
 
 use crate::encode::encode;
 use crate::limits::{MOST_FIXED, MOST_RATE, MOST_SIZE};
@@ -20,6 +20,7 @@ pub fn lists() -> Vec<Vec<Call>> {
         checks(),
         alone(),
         dearest(),
+        parcels(),
     ]
 }
 
@@ -224,7 +225,7 @@ fn alone() -> Vec<Call> {
 }
 
 /// A chain of nine with every amount at its limit, and a plan of 34 steps that costs
-/// all that a plan can: 41,000,025,000,000.
+/// all that a plan can: 26,125,025,000,000.
 pub fn dearest_plan() -> (Query, Vec<Step>) {
     let site = Site { may_join: true, fixed: Charge(MOST_FIXED), rate: Rate(MOST_RATE) };
     let line = Line { open: true, fixed: Charge(MOST_FIXED), rate: Rate(MOST_RATE) };
@@ -249,4 +250,17 @@ fn dearest() -> Vec<Call> {
     let plan = step::plan_bytes(&steps);
     let one_more = step::plan_bytes(&[&steps[..], &[Step::Send { to: 1 }]].concat());
     vec![load(&query), check(&plan), check(&plan[..68]), check(&one_more), SOLVE, read(69)]
+}
+
+/// A send of each size, of a relation and of a joined result, solved and checked; then
+/// charged otherwise by a link.
+fn parcels() -> Vec<Call> {
+    let mut calls = Vec::new();
+    for (size, _) in pinned::PARCELS {
+        calls.extend([load(&pinned::sent(size)), SOLVE, read(5), check(&[2, 1, 0, 2, 1])]);
+        calls.extend([link(0, 1, 1, 0, 1_000), SOLVE, check(&[2, 1, 0, 2, 1])]);
+        calls.extend([load(&pinned::joined_and_sent(size)), SOLVE, read(9)]);
+        calls.push(check(&[4, 1, 1, 1, 0, 3, 0, 2, 1]));
+    }
+    calls
 }

@@ -2,7 +2,6 @@
 //! over fewer relations.
 
 use crate::method::Method;
-use crate::prices;
 use crate::query::Query;
 use crate::sets::{self, Set};
 use crate::tree;
@@ -87,7 +86,8 @@ impl<'query> Tables<'query> {
         for &(join, first, other) in splits {
             let site = &self.query.sites[at];
             let (read_first, read_other) = (self.read(first, at), self.read(other, at));
-            let price = prices::join(site, read_first, read_other, self.query.size(subquery));
+            let together = self.query.size(subquery);
+            let price = self.method.join(site, read_first, read_other, together);
             let parts = self.sum(self.delivered(first, at).cost, self.delivered(other, at).cost);
             let cost = self.sum(parts, Some(price));
             if self.wins(cost, best.cost, Method::HighestJoin) {
@@ -119,7 +119,7 @@ impl<'query> Tables<'query> {
             Method::OtherDirection => self.query.line(to, from),
             _ => self.query.line(from, to),
         };
-        line.open.then(|| prices::send(line, self.query.size(subquery)))
+        line.open.then(|| self.method.send(line, self.query.size(subquery)))
     }
 
     /// What a join at the site reads of an operand that was delivered there.

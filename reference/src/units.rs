@@ -1,5 +1,5 @@
-//! The two units. Bytes and charge units are never added; only a rate turns one
-//! into the other.
+//! The three units. Bytes, parcels and charge units are never added; only a rate turns
+//! bytes or parcels into charge units.
 
 use std::iter::Sum;
 use std::ops::{Add, Mul};
@@ -8,11 +8,15 @@ use std::ops::{Add, Mul};
 #[derive(Clone, Copy, Debug, PartialEq, Eq, PartialOrd, Ord, Hash)]
 pub struct Bytes(pub u64);
 
+/// Parcels of the carrier's: what a line charges for.
+#[derive(Clone, Copy, Debug, PartialEq, Eq)]
+pub struct Parcels(pub u64);
+
 /// A cost, in charge units.
 #[derive(Clone, Copy, Debug, PartialEq, Eq, PartialOrd, Ord, Hash)]
 pub struct Charge(pub u64);
 
-/// Charge units for each byte.
+/// Charge units for each byte of a join, for each parcel of a line.
 #[derive(Clone, Copy, Debug, PartialEq, Eq)]
 pub struct Rate(pub u64);
 
@@ -40,5 +44,12 @@ impl Mul<Bytes> for Rate {
     type Output = Charge;
     fn mul(self, size: Bytes) -> Charge {
         Charge(self.0 * size.0)
+    }
+}
+
+impl Mul<Parcels> for Rate {
+    type Output = Charge;
+    fn mul(self, parcels: Parcels) -> Charge {
+        Charge(self.0 * parcels.0)
     }
 }

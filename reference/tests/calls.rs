@@ -19,7 +19,7 @@ fn list(number: usize) -> Vec<String> {
 /// Q's plan in a lent output of so many bytes.
 fn read_line(bytes: usize) -> String {
     let rest: String = (9..bytes).map(|place| format!("{:02x}", (place * 37 + 11) % 256)).collect();
-    format!("read 9 24 040100010102000300{rest}")
+    format!("read 9 21 040100010102000300{rest}")
 }
 
 #[test]
@@ -52,7 +52,7 @@ fn a_refusal_keeps_the_plan() {
         "output OK",
         "refused 21",
         "cells OK",
-        "solve 24 3",
+        "solve 21 3",
         "cells OK",
         &read_9,
         "refused 23",
@@ -72,7 +72,7 @@ fn a_refusal_keeps_the_plan() {
         "output OK",
         "refused 22",
         "output OK",
-        "solve 24 3",
+        "solve 21 3",
         "cells OK",
         &read_4096,
         "load 2 3",
@@ -88,7 +88,7 @@ fn links_take_wide_arguments() {
     assert_eq!(lines[0], "load 2 3");
     assert!(lines[1..17].iter().all(|line| line == "refused 6"));
     assert!(lines[17..28].iter().all(|line| line == "refused 3"));
-    assert_eq!(lines[28], "solve 24 3");
+    assert_eq!(lines[28], "solve 21 3");
 }
 
 #[test]
@@ -96,21 +96,21 @@ fn no_route_keeps_no_plan() {
     let lines = list(3);
     let answers: Vec<&str> =
         lines.iter().map(String::as_str).filter(|line| !line.ends_with("OK")).collect();
-    assert_eq!(answers[..4], ["load 2 3", "solve 24 3", "link", "solve 39 3"]);
+    assert_eq!(answers[..4], ["load 2 3", "solve 21 3", "link", "solve 26 3"]);
     assert_eq!(
         answers[5..11],
         ["link", "no-route 3", "refused 22", "refused 22", "refused 10 2", "link"]
     );
-    assert_eq!(answers[11], "solve 39 3");
+    assert_eq!(answers[11], "solve 26 3");
 }
 
 #[test]
 fn check_tells_the_place() {
     let expected = [
+        "check 21",
+        "check 21",
         "check 24",
-        "check 24",
-        "check 34",
-        "check 39",
+        "check 26",
         "refused 7",
         "refused 7",
         "refused 7",
@@ -167,7 +167,31 @@ fn one_relation_at_one_site() {
 #[test]
 fn the_dearest_plan() {
     let lines = list(6);
-    assert_eq!(lines[..4], ["load 9 45", "check 41000025000000", "refused 7", "refused 7"]);
+    assert_eq!(lines[..4], ["load 9 45", "check 26125025000000", "refused 7", "refused 7"]);
+}
+
+#[test]
+fn parcels_are_started() {
+    let answers: Vec<String> = list(7).into_iter().filter(|line| !line.ends_with("OK")).collect();
+    for (answers, (size, parcels)) in answers.chunks_exact(11).zip(pinned::PARCELS) {
+        let (sent, rate_only) = (3 + 5 * parcels, 1_000 * parcels);
+        let both = 2 + 3 * size + sent;
+        let expected = [
+            "load 1 1".to_string(),
+            format!("solve {sent} 0"),
+            format!("read 5 {sent} 0201000201"),
+            format!("check {sent}"),
+            "link".to_string(),
+            format!("solve {rate_only} 0"),
+            format!("check {rate_only}"),
+            "load 2 3".to_string(),
+            format!("solve {both} 2"),
+            format!("read 9 {both} 040100010103000201"),
+            format!("check {both}"),
+        ];
+        assert_eq!(answers, expected);
+    }
+    assert_eq!(answers.len(), 11 * pinned::PARCELS.len());
 }
 
 #[test]

@@ -111,5 +111,5 @@ fn a_query_that_is_too_large_to_search() {
     assert_eq!(large.stdout, b"");
     assert!(String::from_utf8_lossy(&large.stderr).starts_with("exhaustive: too large"));
     let small = run(tool, &[], &encode(&pinned::q()));
-    assert_eq!((small.status.code(), &small.stdout[..]), (Some(0), &b"cheapest 24\n"[..]));
+    assert_eq!((small.status.code(), &small.stdout[..]), (Some(0), &b"cheapest 21\n"[..]));
 }

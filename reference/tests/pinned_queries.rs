@@ -5,10 +5,10 @@ use reference::limits::{DEAREST_PLAN, LONGEST_FILE, MOST_STEPS};
 use reference::method::Method;
 use reference::pinned;
 use reference::pinned_calls;
-use reference::query::Query;
+use reference::query::{Line, Query};
 use reference::random::Random;
-use reference::units::Charge;
-use reference::{check, decode, encode, exhaustive, listing, solve, step};
+use reference::units::{Bytes, Charge, Parcels, Rate};
+use reference::{check, decode, encode, exhaustive, listing, prices, solve, step};
 
 fn cost(query: &Query, method: Method) -> Option<u64> {
     solve::solve(query, method).map(|plan| plan.cost.0)
@@ -23,7 +23,7 @@ fn q_has_107_bytes_and_its_listing() {
     let file = encode::encode(&pinned::q());
     assert_eq!(file.len(), 107);
     assert_eq!(decode::decode(&file), Ok(pinned::q()));
-    assert_eq!(list(&pinned::q()), "plan 4 cost 24 trials 3\nload 0\nload 1\nsend 0\njoin 0\n");
+    assert_eq!(list(&pinned::q()), "plan 4 cost 21 trials 3\nload 0\nload 1\nsend 0\njoin 0\n");
 }
 
 #[test]
@@ -43,7 +43,7 @@ fn what_the_rows_print() {
     assert_eq!(printed[5], "no route trials 3\n");
     assert_eq!(printed[6], "plan 4 cost 19 trials 3\nload 0\nload 1\nsend 0\njoin 0\n");
     assert_eq!(printed[7], "plan 1 cost 0 trials 0\nload 0\n");
-    assert_eq!(printed[8], "plan 2 cost 11 trials 0\nload 0\nsend 1\n");
+    assert_eq!(printed[8], "plan 2 cost 3 trials 0\nload 0\nsend 1\n");
 }
 
 #[test]
@@ -65,9 +65,38 @@ fn the_chain_of_five_of_source_000() {
 #[test]
 fn the_bushy_case() {
     let query = pinned::bushy_four();
-    assert_eq!(cost(&query, Method::Rules), Some(202));
-    assert_eq!(cost(&query, Method::SingleOperand), Some(301));
-    assert_eq!(cost(&query, Method::OnlyHomes), Some(1201));
+    assert_eq!(cost(&query, Method::Rules), Some(28));
+    assert_eq!(cost(&query, Method::SingleOperand), Some(40));
+    assert_eq!(cost(&query, Method::OnlyHomes), Some(152));
+}
+
+#[test]
+fn the_carriers_parcels() {
+    let line = Line { open: true, fixed: Charge(3), rate: Rate(5) };
+    for (size, parcels) in pinned::PARCELS {
+        assert_eq!(prices::parcels(Bytes(size)), Parcels(parcels));
+        assert_eq!(prices::send(&line, Bytes(size)), Charge(3 + 5 * parcels));
+        for (query, joined) in
+            [(pinned::sent(size), 0), (pinned::joined_and_sent(size), 2 + 3 * size)]
+        {
+            let expected = Some(joined + 3 + 5 * parcels);
+            assert_eq!(cost(&query, Method::Rules), expected, "{size} bytes");
+            let searched = exhaustive::cheapest(&query).unwrap();
+            assert_eq!(searched.map(|cost| cost.0), expected, "{size} bytes");
+        }
+    }
+}
+
+/// By the parcel and by the byte the star of examples/ has two cheapest plans.
+#[test]
+fn a_plan_that_parcels_change() {
+    let file = std::fs::read("../examples/star-of-nine.query").unwrap();
+    let star = decode::decode(&file).unwrap();
+    let (plan, by_the_byte) = [Method::Rules, Method::LinesByTheByte]
+        .map(|method| solve::solve(&star, method).unwrap())
+        .into();
+    assert_eq!((plan.cost, by_the_byte.cost), (Charge(140_071), Charge(216_405)));
+    assert_eq!(check::check(&star, &step::plan_bytes(&by_the_byte.steps)), Ok(Charge(140_534)));
 }
 
 #[test]

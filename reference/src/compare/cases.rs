@@ -13,6 +13,8 @@ pub fn fixed() -> Vec<Vec<u8>> {
     let mut pinned: Vec<Query> = pinned::rows().into_iter().map(|(query, _)| query).collect();
     pinned.extend([pinned::chain_of_five(), pinned::bushy_four(), pinned::lower_site_at_a_tie()]);
     pinned.extend([pinned::uniform(pinned::star(9), 8), pinned::uniform(pinned::chain(9), 8)]);
+    pinned.extend(pinned::PARCELS.map(|(size, _)| pinned::sent(size)));
+    pinned.extend(pinned::PARCELS.map(|(size, _)| pinned::joined_and_sent(size)));
 
     let mut cases: Vec<Vec<u8>> = pinned.iter().map(encode::encode).collect();
     cases.extend(sweep(&pinned::q()));

@@ -3,7 +3,7 @@
 
 use std::ops::RangeInclusive;
 
-use crate::limits::{MOST_FIXED, MOST_RATE, MOST_RELATIONS, MOST_SITES, MOST_SIZE};
+use crate::limits::{MOST_FIXED, MOST_RATE, MOST_RELATIONS, MOST_SITES, MOST_SIZE, PARCEL};
 use crate::query::{Line, Query, Relation, Site};
 use crate::random::Random;
 use crate::tree::{self, Join};
@@ -159,9 +159,24 @@ fn relations(random: &mut Random, count: usize, sites: usize) -> Vec<Relation> {
     (0..count).map(relation).collect()
 }
 
+/// Half the time each size fills its parcels, or is a byte beside that.
 fn sizes(random: &mut Random, count: usize, mood: Mood) -> Vec<Bytes> {
-    let amounts = Amounts::choose(random, MOST_SIZE, mood);
-    (0..count).map(|_| Bytes(amounts.draw(random, MOST_SIZE))).collect()
+    if random.percent(50) {
+        let amounts = Amounts::choose(random, MOST_SIZE, mood);
+        return (0..count).map(|_| Bytes(amounts.draw(random, MOST_SIZE))).collect();
+    }
+    let most_parcels = MOST_SIZE / PARCEL;
+    let parcels = Amounts::choose(random, most_parcels, mood);
+    let size = |_| {
+        let filled = PARCEL * parcels.draw(random, most_parcels);
+        beside(random, filled)
+    };
+    (0..count).map(size).collect()
+}
+
+/// The size, or a byte less or more, within the limits.
+fn beside(random: &mut Random, size: u64) -> Bytes {
+    Bytes((size + random.between(0, 2)).saturating_sub(1).min(MOST_SIZE))
 }
 
 fn lines(random: &mut Random, sites: usize, mood: Mood) -> Vec<Line> {
