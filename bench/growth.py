@@ -56,7 +56,7 @@ page = [
     "",
     "## Beside C",
     "",
-    "bench/plain.c is written to win. Its figures are doubles, exact for these whole numbers, because the lesser of two doubles is one instruction on every x86-64 and that of two 64-bit integers is not; a trial there is one sum and one lesser for all sites at once; lines, prices and splits are made ready by its load. `make bench ARGS='compare COUNT SEED'` holds it to the product's answers on random queries.",
+    "bench/plain.c is written to win. Its figures are doubles, exact for these whole numbers, because the lesser of two doubles is one instruction on every x86-64 and that of two 64-bit integers is not; a trial there is one sum and one lesser for all sites at once; lines and splits are made ready by its load. `make bench ARGS='compare COUNT SEED'` holds it to the product's answers on random queries.",
     "",
     "```",
     shapes,

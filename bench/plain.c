@@ -4,8 +4,8 @@
  * infinity, and a sum with it stays infinity. The lesser of two is one instruction, which it is not for 64-bit integers.
  *
  * A cell holds what a subquery costs as an operand at each site: Delivered, and the read. So a trial is one sum and one
- * lesser for all sites at once. Everything else is fixed + rate x size, with one row of each for every place where a
- * result is made: the load makes them ready.
+ * lesser for all sites at once. Joins and reads go by the byte and are worked out once for a subquery; lines go by the
+ * parcel, with a row for every site where a result is made, and a row is one product, two sums and one lesser.
  *
  * The joins are a tree, hung from relation 0. A join is known by its lower relation, and the part beyond it is what hangs
  * from there, so a split is one mask.
@@ -20,11 +20,12 @@
 #define NONE ((double)INFINITY)
 #define INLINED static inline __attribute__((always_inline))
 
-/* The width is 4 or 8 where this is compiled. Vectors are made first, and what is left of the loop then unrolled. */
-#define EACH_LANE(k) _Pragma("GCC unroll 4") for (int k = 0; k < width; k++)
+/* The sites are a constant where this is compiled. Vectors are made first, and what is left of the loop then unrolled. Not by
+ * 4: a loop of four lanes would then be unrolled before it is made vectors. */
+#define EACH_LANE(k) _Pragma("GCC unroll 3") for (int k = 0, lanes = sites <= 4 ? 4 : 8; k < lanes; k++)
 
 enum { CUT = 1, COUNT = 2, RANGE = 3, APART = 4, MORE = 5, SHORT = 23, REFUSED = 256 };
-enum { MOST_FIXED = 1000000, MOST_RATE = 1000, MOST_SIZE = 1000000000 };
+enum { MOST_FIXED = 1000000, MOST_RATE = 1000, MOST_SIZE = 1000000000, PARCEL = 8 };
 enum { LOAD = 1, SEND = 2, JOIN = 3 };
 
 /* ---- The query file */
@@ -172,19 +173,15 @@ static void read_sizes(reader *r, plain_query *q)
 static void read_lines(reader *r, plain_query *q)
 {
     for (int a = 0; !r->refusal && a < q->sites; a++) {
-        plain_lanes fixed = {{0}}, rate = q->join_rate;
+        plain_lanes fixed = {{0}}, rate = {{0}};
         for (int b = 0; b < q->sites; b++)
             if (a != b) {
                 int open = byte_below(r, 2), line = amount(r, MOST_FIXED);
                 fixed.at[b] = open ? line : NONE;
-                rate.at[b] += amount(r, MOST_RATE);
+                rate.at[b] = amount(r, MOST_RATE);
             }
-        q->bare_fixed[a] = fixed;
-        q->bare_rate[a] = rate;
-        for (int b = 0; b < 8; b++) {
-            q->joined_fixed[a].at[b] = fixed.at[b] + q->join_fixed.at[a];
-            q->joined_rate[a].at[b] = rate.at[b] + q->join_rate.at[a];
-        }
+        q->line_fixed[a] = fixed;
+        q->line_rate[a] = rate;
     }
 }
 
@@ -213,18 +210,21 @@ int plain_load(plain_query *q, const uint8_t *file, size_t length)
 
 INLINED double lesser(double a, double b) { return a < b ? a : b; }
 
+/* Those that a size starts: none for no bytes. */
+INLINED double parcels(uint32_t size) { return (int)((size + PARCEL - 1) / PARCEL); }
+
 /* A bare relation as an operand at each site. */
-INLINED void fill_bare(const plain_query *q, int r, plain_lanes *cell, int width)
+INLINED void fill_bare(const plain_query *q, int r, plain_lanes *cell, int sites)
 {
-    const plain_lanes *fixed = &q->bare_fixed[q->home[r]], *rate = &q->bare_rate[q->home[r]];
-    double size = (int)q->size[1u << r];
-    EACH_LANE(t) cell->at[t] = fixed->at[t] + rate->at[t] * size;
+    const plain_lanes *fixed = &q->line_fixed[q->home[r]], *rate = &q->line_rate[q->home[r]];
+    double size = (int)q->size[1u << r], sent = parcels(q->size[1u << r]);
+    EACH_LANE(t) cell->at[t] = fixed->at[t] + rate->at[t] * sent + q->join_rate.at[t] * size;
     if (q->indexed[r])
         cell->at[q->home[r]] = 0;
 }
 
 /* The least over the joins inside a set of both parts together, at each site. Answers how many joins were tried. */
-INLINED int try_joins(const plain_query *q, const plain_lanes *cells, uint32_t set, plain_lanes *least, int width)
+INLINED int try_joins(const plain_query *q, const plain_lanes *cells, uint32_t set, plain_lanes *least, int sites)
 {
     plain_lanes parts;
     int tried = 0;
@@ -238,57 +238,79 @@ INLINED int try_joins(const plain_query *q, const plain_lanes *cells, uint32_t s
     return tried;
 }
 
-/* A subquery joined at any site as an operand at each site. */
-INLINED void deliver(const plain_query *q, const plain_lanes *parts, double size, plain_lanes *cell, int width)
+/* A subquery joined at any site as an operand at each site. Even and odd sites have a least each, and neither waits. */
+INLINED void deliver(const plain_query *q, const plain_lanes *parts, uint32_t size, plain_lanes *cell, int sites)
 {
-    plain_lanes least;
-    EACH_LANE(t) least.at[t] = NONE;
-#pragma GCC unroll 2
-    for (int k = 0; k < q->sites; k++) {
-        const plain_lanes *fixed = &q->joined_fixed[k], *rate = &q->joined_rate[k];
-        double here = parts->at[k];
-        EACH_LANE(t) least.at[t] = lesser(least.at[t], rate->at[t] * size + fixed->at[t] + here);
+    plain_lanes read, joined, least[2];
+    double bytes = (int)size, sent = parcels(size);
+    EACH_LANE(k) read.at[k] = q->join_rate.at[k] * bytes;
+    EACH_LANE(k) joined.at[k] = q->join_fixed.at[k] + read.at[k] + parts->at[k];
+#pragma GCC unroll 8
+    for (int k = 0; k < sites; k++) {
+        const plain_lanes *fixed = &q->line_fixed[k], *rate = &q->line_rate[k];
+        plain_lanes *low = &least[k % 2];
+        double here = joined.at[k];
+        if (k < 2)
+            EACH_LANE(t) low->at[t] = rate->at[t] * sent + fixed->at[t] + here;
+        else
+            EACH_LANE(t) low->at[t] = lesser(low->at[t], rate->at[t] * sent + fixed->at[t] + here);
     }
-    EACH_LANE(t) cell->at[t] = least.at[t];
+    EACH_LANE(t) cell->at[t] = lesser(least[0].at[t], least[sites > 1].at[t]) + read.at[t];
 }
 
 /* Every cell but that of all relations, of which one site is asked alone. Answers how many joins were tried, with its own. */
-INLINED int fill(const plain_query *q, plain_lanes *cells, int width)
+INLINED int fill(const plain_query *q, plain_lanes *cells, int sites)
 {
     int tried = q->relations - 1;
     for (int i = 0; i < q->subqueries - 1; i++) {
         uint32_t set = q->subquery[i];
         if (q->inner[set]) {
             plain_lanes parts;
-            tried += try_joins(q, cells, set, &parts, width);
-            deliver(q, &parts, (int)q->size[set], &cells[set], width);
+            tried += try_joins(q, cells, set, &parts, sites);
+            deliver(q, &parts, q->size[set], &cells[set], sites);
         } else {
-            fill_bare(q, __builtin_ctz(set), &cells[set], width);
+            fill_bare(q, __builtin_ctz(set), &cells[set], sites);
         }
     }
     return tried;
 }
 
+/* The same, compiled for each number of sites. */
+static int fill_all(const plain_query *q, plain_lanes *cells)
+{
+    switch (q->sites) {
+    case 1: return fill(q, cells, 1);
+    case 2: return fill(q, cells, 2);
+    case 3: return fill(q, cells, 3);
+    case 4: return fill(q, cells, 4);
+    case 5: return fill(q, cells, 5);
+    case 6: return fill(q, cells, 6);
+    case 7: return fill(q, cells, 7);
+    default: return fill(q, cells, 8);
+    }
+}
+
 /* ---- The plan */
 
 typedef struct {
-    double cost, parts; /* as an operand where it is to go, and of both parts together where it is made */
+    double cost, parts; /* Delivered where it is to go, and both parts together where it is made */
     int site;           /* where it is made */
 } choice;
 
 /* The cheapest way to have a set at a site: made at the lowest site on a tie. */
 static choice cheapest(const plain_query *q, const plain_lanes *cells, uint32_t set, int to)
 {
-    double size = (int)q->size[set];
+    double size = (int)q->size[set], sent = parcels(q->size[set]);
     if (q->inner[set] == 0) {
         int home = q->home[__builtin_ctz(set)];
-        return (choice){q->bare_rate[home].at[to] * size + q->bare_fixed[home].at[to], 0, home};
+        return (choice){q->line_rate[home].at[to] * sent + q->line_fixed[home].at[to], 0, home};
     }
     plain_lanes parts;
     choice best = {NONE, 0, 0};
     try_joins(q, cells, set, &parts, 8);
     for (int k = 0; k < q->sites; k++) {
-        double cost = q->joined_rate[k].at[to] * size + q->joined_fixed[k].at[to] + parts.at[k];
+        double here = q->join_rate.at[k] * size + q->join_fixed.at[k] + parts.at[k];
+        double cost = q->line_rate[k].at[to] * sent + q->line_fixed[k].at[to] + here;
         if (cost < best.cost)
             best = (choice){cost, parts.at[k], k};
     }
@@ -333,11 +355,11 @@ static uint8_t *write_steps(const plain_query *q, const plain_lanes *cells, uint
 plain_answer plain_solve(const plain_query *q, plain_lanes cells[512], uint8_t plan[69])
 {
     uint32_t all = (1u << q->relations) - 1;
-    int tried = q->sites <= 4 ? fill(q, cells, 4) : fill(q, cells, 8);
+    int tried = fill_all(q, cells);
     plain_answer answer = {PLAIN_NONE, (uint64_t)(tried * q->sites), 0};
     choice made = cheapest(q, cells, all, q->target);
     if (made.cost < NONE) {
-        answer.cost = (uint64_t)(made.cost - q->join_rate.at[q->target] * q->size[all]);
+        answer.cost = (uint64_t)made.cost;
         answer.length = (size_t)(write_steps(q, cells, all, q->target, made, plan + 1) - plan);
         plan[0] = (uint8_t)(answer.length / 2);
     }

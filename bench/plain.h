@@ -19,9 +19,8 @@ typedef struct {
     uint16_t subquery[264];     /* ascending */
     uint16_t inner[512];        /* of each subquery: its relations that hang from one of its relations */
     uint32_t size[512];         /* of each subquery */
-    plain_lanes join_fixed, join_rate;
-    plain_lanes bare_fixed[8], bare_rate[8];     /* what a relation of this home costs at each site: line and read */
-    plain_lanes joined_fixed[8], joined_rate[8]; /* what a result joined here costs at each site: join, line and read */
+    plain_lanes join_fixed, join_rate;       /* a rate for each byte */
+    plain_lanes line_fixed[8], line_rate[8]; /* from each site to each site, 0 to itself; a rate for each parcel */
 } plain_query;
 
 typedef struct {

@@ -2,6 +2,8 @@
 
 #include <string.h>
 
+enum { PARCEL = 8, MOST_SIZE = 1000000000 };
+
 static uint64_t state;
 
 void seed(uint64_t s)
@@ -23,6 +25,7 @@ typedef struct {
 typedef struct {
     int sites, relations, first[8], second[8];
     amounts fixed, rate, size;
+    uint64_t in_parcels;     /* whether a size is drawn as a number of parcels */
     uint64_t barred, closed; /* one site in so many may not join, one line in so many is closed; 0: none */
 } draft;
 
@@ -37,6 +40,17 @@ static void put(query_file *f, int width, uint64_t v)
 static void put_amount(query_file *f, amounts a)
 {
     put(f, 4, a.least + below(a.span));
+}
+
+/* As many bytes as were drawn; or as many full parcels, a byte less or a byte more. */
+static void put_size(query_file *f, const draft *d)
+{
+    uint64_t size = d->size.least + below(d->size.span);
+    if (d->in_parcels) {
+        size = PARCEL * size + below(3);
+        size -= size > 0;
+    }
+    put(f, 4, size < MOST_SIZE ? size : MOST_SIZE);
 }
 
 static void put_terms(query_file *f, const draft *d, uint64_t one_in)
@@ -76,7 +90,7 @@ static void write_query(query_file *f, const draft *d)
         count += connected(d, set) != 0;
     put(f, 2, count);
     for (unsigned i = 0; i < count; i++)
-        put_amount(f, d->size);
+        put_size(f, d);
     put(f, 1, (uint64_t)(d->sites * (d->sites - 1)));
     for (int i = 0; i < d->sites * (d->sites - 1); i++)
         put_terms(f, d, d->closed);
@@ -160,7 +174,8 @@ void random_query(query_file *f)
     draft d = {.sites = 1 + (int)below(8), .relations = 1 + (int)below(9), .barred = below(12), .closed = below(12)};
     d.fixed = any_amounts(1000000);
     d.rate = any_amounts(1000);
-    d.size = any_amounts(1000000000);
+    d.in_parcels = below(2);
+    d.size = any_amounts(d.in_parcels ? MOST_SIZE / PARCEL : MOST_SIZE);
     draw_joins(&d, shapes[below(4)]);
     mix(&d);
     write_query(f, &d);

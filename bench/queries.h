@@ -22,8 +22,8 @@ void shaped_query(query_file *f, const char *shape, int relations, int sites);
 /* Trials of solve on a shaped query. */
 uint64_t shaped_trials(const char *shape, int relations, int sites);
 
-/* Any query: any tree in any order, small amounts that tie or amounts at their limits, closed lines, sites that may not
- * join, indexes. */
+/* Any query: any tree in any order, small amounts that tie or amounts at their limits, sizes at and beside full parcels,
+ * closed lines, sites that may not join, indexes. */
 void random_query(query_file *f);
 
 /* One change somewhere, more often near the front. */

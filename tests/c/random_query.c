@@ -1,6 +1,6 @@
 #include "random_query.h"
 
-enum { MOST_SITES = 8, MOST_RELATIONS = 9, MOST_SIZE = 1000000000, MOST_FIXED = 1000000, MOST_RATE = 1000 };
+enum { MOST_SITES = 8, MOST_RELATIONS = 9, MOST_SIZE = 1000000000, MOST_FIXED = 1000000, MOST_RATE = 1000, PARCEL = 8 };
 
 typedef struct {
     uint64_t state;
@@ -56,6 +56,17 @@ static uint32_t connected(const uint8_t *ends, uint32_t relations, uint32_t set)
     return more == 1;
 }
 
+/* Of four sizes two are any, one is a few full parcels and one any number of them; or a byte less, or a byte more. */
+static void put_size(writer *w)
+{
+    uint32_t size = below(w, MOST_SIZE + 1), kind = below(w, 4);
+    if (kind < 2) {
+        size = (kind == 0 ? size % 4 : size / PARCEL) * PARCEL + below(w, 3);
+        size -= size > 0;
+    }
+    put(w, size < MOST_SIZE ? size : MOST_SIZE, 4);
+}
+
 static void put_sizes(writer *w, const uint8_t *ends, uint32_t relations)
 {
     uint32_t subqueries = 0;
@@ -63,7 +74,7 @@ static void put_sizes(writer *w, const uint8_t *ends, uint32_t relations)
         subqueries += connected(ends, relations, set);
     put(w, subqueries, 2);
     while (subqueries-- > 0)
-        put(w, below(w, MOST_SIZE + 1), 4);
+        put_size(w);
 }
 
 size_t random_query(uint64_t *state, uint8_t *file)

@@ -22,33 +22,48 @@ def no_route(query, loaded, solved):
 
 def pinned():
     """Rows 1 to 9 of rule 10.3."""
-    yield from found(q(), "load 2 3", "solve 24 3", "l0 l1 s0 j0")
-    yield from found(q(target=2), "load 2 3", "solve 28 3", "l0 l1 s0 j0 s2")
-    yield from found(q(relations=[(0, 1), (1, 0)]), "load 2 3", "solve 14 3", "l0 l1 s0 j0")
-    yield from found(q(sites=[(0, 2, 1)] + SITES[1:]), "load 2 3", "solve 34 3", "l0 s1 l1 j0 s0")
-    yield from found(q(line=closed((1, 0))), "load 2 3", "solve 39 3", "l0 s2 l1 s2 j0 s0")
+    yield from found(q(), "load 2 3", "solve 21 3", "l0 l1 s0 j0")
+    yield from found(q(target=2), "load 2 3", "solve 23 3", "l0 l1 s0 j0 s2")
+    yield from found(q(relations=[(0, 1), (1, 0)]), "load 2 3", "solve 11 3", "l0 l1 s0 j0")
+    yield from found(q(sites=[(0, 2, 1)] + SITES[1:]), "load 2 3", "solve 24 3", "l0 s1 l1 j0 s0")
+    yield from found(q(line=closed((1, 0))), "load 2 3", "solve 26 3", "l0 s2 l1 s2 j0 s0")
     yield from no_route(q(line=closed((1, 0), (2, 0))), "load 2 3", "no-route 3")
     yield from found(q(line=every(*FREE)), "load 2 3", "solve 19 3", "l0 l1 s0 j0")
     yield from found(alone(0), "load 1 1", "solve 0 0", "l0")
-    yield from found(alone(1), "load 1 1", "solve 11 0", "l0 s1")
+    yield from found(alone(1), "load 1 1", "solve 3 0", "l0 s1")
+
+
+# Sizes at and beside full parcels, and at the limit, with the parcels that they start.
+PARCELS = {0: 0, 1: 1, 7: 1, 8: 1, 9: 2, 15: 2, 16: 2, 17: 3, 999_999_999: 125_000_000, 1_000_000_000: 125_000_000}
+
+
+def parcels():
+    """A send for 3 and 5 a parcel: of a relation, and of a result that was joined for 2 and 1 a byte."""
+    for size, started in PARCELS.items():
+        sent = 3 + 5 * started
+        both = 2 + (size + size + size) + sent
+        relations, lines = [(0, 0)] * 2, every(1, 3, 5)
+        yield from found(file(SITES[:2], relations[:1], [], lambda subquery: size, lines, 1), "load 1 1", f"solve {sent} 0", "l0 s1")
+        sites = [SITES[0], (0, 2, 1)]
+        yield from found(file(sites, relations, chain(2), lambda subquery: size, lines, 1), "load 2 3", f"solve {both} 2", "l0 l1 j0 s1")
 
 
 def larger():
-    # the chain of five of examples/chain-of-five.txt
+    # the chain of five of examples/chain-of-five.txt, a parcel for each of the paper's bytes
     five = {1: 100, 2: 400, 3: 80, 4: 700, 6: 311, 7: 62, 8: 1100, 12: 481, 14: 214, 15: 43, 16: 1600, 24: 733, 28: 321, 30: 143, 31: 29}
-    query = file([FREE] * 6, [(r, 0) for r in range(5)], chain(5), five.get, every(1, 10, 1), 5)
+    query = file([FREE] * 6, [(r, 0) for r in range(5)], chain(5), lambda subquery: 8 * five[subquery], every(1, 10, 1), 5)
     yield from found(query, "load 5 15", "solve 364 120", "l0 s1 l1 j0 s2 l2 j1 s3 l3 j2 s4 l4 j3 s5")
     # a plan whose last join has two joined operands
     four = {1: 100, 2: 100, 4: 100, 8: 100, 3: 1, 12: 1, 6: 100, 7: 1000, 14: 1000, 15: 1000}
     query = file([FREE] * 5, [(r, 0) for r in range(4)], chain(4), four.get, every(1, 0, 1), 4)
-    yield from found(query, "load 4 10", "solve 202 50", "l0 l1 s0 j0 s4 l2 l3 s2 j2 s4 j1")
+    yield from found(query, "load 4 10", "solve 28 50", "l0 l1 s0 j0 s4 l2 l3 s2 j2 s4 j1")
     # ties: the lowest site, and the lowest join
     query = file([FREE] * 2, [(0, 0)] * 2, chain(2), lambda subquery: 1, every(*FREE), 1)
     yield from found(query, "load 2 3", "solve 0 2", "l0 l1 j0 s1")
     query = file([FREE], [(0, 0)] * 3, chain(3), lambda subquery: 1, None, 0)
     yield from found(query, "load 3 6", "solve 0 4", "l0 l1 l2 j1 j0")
     # the longest file
-    yield from found(LONGEST, "load 9 264", "solve 1780452962523 8192", "l8 l6 l4 s0 l2 s0 l0 l1 s0 j0 j1 s3 l3 j2 s0 j3 l5 s0 j4 s6 j5 s0 l7 s0 j6 j7 s7")
+    yield from found(LONGEST, "load 9 264", "solve 1760025210747 8192", "l8 l6 l4 s0 l2 s0 l0 l1 s0 j0 j1 s3 l3 j2 s0 j3 l5 s0 j4 s6 j5 s0 l7 s0 j6 j7 s7")
 
 
 CHAINS = [
@@ -85,5 +100,6 @@ def shapes():
 
 def script():
     yield from pinned()
+    yield from parcels()
     yield from larger()
     yield from shapes()

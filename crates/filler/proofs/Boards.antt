@@ -15,7 +15,7 @@ use Rattle.query.specs.declared.Query.{Query}
 use Rattle.query.specs.Choice.{pick}
 use Rattle.query.specs.Cost.{none, some}
 use Rattle.query.specs.Query.{Valid, relationsOf, sitesOf, home, index, mayJoin, joinFixed, joinRate, isOpen, lineFixed, lineRate, size}
-use Rattle.query.specs.Prices.{linePrice, carriage, reads, joinPrice, dearestLine, indexed}
+use Rattle.query.specs.Prices.{lineCharge, linePrice, carriage, reads, joinPrice, dearestLine, indexed}
 use Rattle.query.specs.Masks.{countedMask}
 use Rattle.query.proofs.Prices.{mask-is, mask-spares, line-most}
 use Rattle.tables.specs.Tables.{only}
@@ -99,8 +99,8 @@ module _ (q : Query) (l : Lent) (laid : LaidOut q l) where
       rw (laid .board .line-fixed k t h low, laid .board .line-rate k t h low, laid .sizes) (go (eqb k t) (isOpen q k t))
     where
       go : (same opened : Bool) →
-          Shows dearestLine (pick same 0 (pick opened (lineFixed q k t) noneMark) + pick same 0 (lineRate q k t) * getD (q .sizes) S 0)
-          (pick same (some 0) (pick opened (some (lineFixed q k t + lineRate q k t * getD (q .sizes) S 0)) none))
+          Shows dearestLine (lineCharge (pick same 0 (pick opened (lineFixed q k t) noneMark)) (pick same 0 (lineRate q k t)) (getD (q .sizes) S 0))
+          (pick same (some 0) (pick opened (some (lineCharge (lineFixed q k t) (lineRate q k t) (getD (q .sizes) S 0))) none))
       go true opened = (omega arith, omega arith)
       go false true = (refl, line-most q (laid .valid) S k t)
       go false false = omega arith

@@ -11,7 +11,7 @@ use borrow.Author.Tests.{eq-eqb, ne-eqb}
 use Rattle.relations.specs.Sets.{bit}
 use Rattle.query.specs.Choice.{pick}
 use Rattle.query.specs.Masks.{IsMask}
-use Rattle.query.specs.Prices.{reads}
+use Rattle.query.specs.Prices.{lineCharge, reads}
 use Rattle.board.specs.Figures.{noneMark}
 use Rattle.filler.specs.Cells.{place}
 use Rattle.board.specs.Board.{fixedAt, rateAt, countedAt, lineFixedAt, lineRateAt, sitesAt}
@@ -45,7 +45,7 @@ pub carriage-asks : (b : List ℕ) (size k t : ℕ) → Carriable b size → k <
     (lineFixedAt b k t ≤ noneMark) × ((lineRateAt b k t ≤ 1_000) × (size ≤ 1_000_000_000))
 carriage-asks b size k t p h g = (p .fixed-most k t h g, (p .rate-most k t h g, p .size-most))
 
-pub carriage-is : (b : List ℕ) (size k t r : ℕ) → r ≡ lineFixedAt b k t + lineRateAt b k t * size → r ≡ carriageIn b size k t
+pub carriage-is : (b : List ℕ) (size k t r : ℕ) → r ≡ lineCharge (lineFixedAt b k t) (lineRateAt b k t) size → r ≡ carriageIn b size k t
 unfolding carriageIn
 carriage-is b size k t r e = e
 

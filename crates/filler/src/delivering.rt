@@ -12,6 +12,7 @@ ghost use Prim.Native.Nat.{ℕ, _+_, _≤_, _<_};
 ghost use mathlib.Core.Path.{_≡_};
 ghost use lib.ListN.{getD};
 ghost use Rattle.relations.specs.Code.{mostSets};
+ghost use Rattle.query.specs.Prices.{dearestLine};
 ghost use Rattle.board.specs.Figures.{noneMark, Lanes, Marked, Tried};
 ghost use Rattle.filler.specs.Cells.{Roomy, Stored};
 ghost use Rattle.board.specs.Board.{sitesAt};
@@ -20,7 +21,7 @@ ghost use Rattle.filler.specs.Trials.{carriageIn, Carriable, deliveredIn
 // The carriage of a size from site k to site t.
 pub fn carriage(board: &[u64; 256], size: Bytes, k: usize, t: usize) -> Charge
     requires { ⌜ Carriable (now board) (size .0) × ((k < sitesAt (now board)) × (t < 8)) ⌝ }
-    ensures { λ r. ⌜ (r .0 ≡ carriageIn (now (board .entry)) (size .0) k t) × (r .0 ≤ noneMark + 1000000000000) ⌝ }
+    ensures { λ r. ⌜ (r .0 ≡ carriageIn (now (board .entry)) (size .0) k t) × (r .0 ≤ noneMark + dearestLine) ⌝ }
 {
     let fixed = Charge(board[8 * (LINE_FIXED + k) + t]);
     line_price(fixed, board[8 * (LINE_RATE + k) + t], size)

@@ -76,7 +76,7 @@ fn steps(plan: &[u8], count: usize) -> bool
     true
 }
 
-// `plan 4 cost 24 trials 3`, then each step. The plan is a count byte and its steps.
+// `plan 4 cost 21 trials 3`, then each step. The plan is a count byte and its steps.
 fn plan(plan: &[u8; LONGEST_PLAN], cost: u64, trials: u64) -> Listed
     ensures { λ r. ⌜ r .lines ≡ 1 + getD (now (plan .entry)) 0 0 ⌝ }
 {

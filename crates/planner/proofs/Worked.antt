@@ -7,7 +7,7 @@ use Rattle.relations.specs.Trees.{isSubquery, countBelow, reaches, part}
 use Rattle.decoder.specs.Fields.{number, field, items, storing, section}
 use Rattle.decoder.specs.Decode.{terms, two, sitesSection, relationsSection, joinsSection, sized, sizesSection, line, sender, linesSection, deliverySection, decode}
 use Rattle.query.specs.Query.{home, index, mayJoin, joinFixed, joinRate, isOpen, lineFixed, lineRate, size}
-use Rattle.query.specs.Prices.{linePrice, carriage, reads, joinPrice, indexed}
+use Rattle.query.specs.Prices.{parcels, linePrice, carriage, reads, joinPrice, indexed}
 use Rattle.query.specs.Prices as prices
 use Rattle.rules.specs.Machine as machine
 use Rattle.rules.specs.Allowed as plans
@@ -23,7 +23,7 @@ use Rattle.planner.specs.Check.{check}
 use Rattle.planner.specs.Worked.{Worked}
 
 pub worked : Worked
-unfolding ones onesIn trailingZeros bit put inside leads step grow isSubquery countBelow reaches part number field items storing section terms two sitesSection relationsSection joinsSection sized sizesSection line sender linesSection deliverySection decode home index mayJoin joinFixed joinRate isOpen lineFixed lineRate size linePrice carriage prices.read reads joinPrice indexed machine.load machine.sendTop machine.send machine.links machine.spared machine.joinTop machine.join machine.step plans.finish plans.run plans.checked best byJoin joinedBy deliveredBy deliveredUpTo delivered joined joinsBelow bestSite bestJoin joinedSteps deliveredSteps stepsUpTo writtenDelivered cellsNeeded load sitesListed termsInRange link solve read check
+unfolding ones onesIn trailingZeros bit put inside leads step grow isSubquery countBelow reaches part number field items storing section terms two sitesSection relationsSection joinsSection sized sizesSection line sender linesSection deliverySection decode home index mayJoin joinFixed joinRate isOpen lineFixed lineRate size parcels linePrice carriage prices.read reads joinPrice indexed machine.load machine.sendTop machine.send machine.links machine.spared machine.joinTop machine.join machine.step plans.finish plans.run plans.checked best byJoin joinedBy deliveredBy deliveredUpTo delivered joined joinsBelow bestSite bestJoin joinedSteps deliveredSteps stepsUpTo writtenDelivered cellsNeeded load sitesListed termsInRange link solve read check
 worked = record {
   q-length = refl;
   q-decoded = refl;

@@ -67,10 +67,10 @@ abbrev pub keeping : Query → List ℕ → ℕ → State
 keeping q plan c = record { query = some q; kept = some (record { plan = plan; cost = c }) }
 
 abbrev pub solvedQ : State
-solvedQ = keeping Q qPlan 24
+solvedQ = keeping Q qPlan 21
 
 abbrev pub solvedRow5 : State
-solvedRow5 = keeping row5 row5Plan 39
+solvedRow5 = keeping row5 row5Plan 26
 
 pub record Worked : Type 0 where
   -- The file has 107 bytes, and what it holds is Q, nothing left.
@@ -78,13 +78,13 @@ pub record Worked : Type 0 where
   pub q-decoded : decode qBytes ≡ value Q []
   -- From an empty planner: load, solve, read into 12 bytes, check.
   pub load-q : Load.load qBytes nothing ≡ doneWith (Load.loaded 2 3) (standing Q)
-  pub solve-q : Solve.solve 4_096 (standing Q) ≡ doneWith (Solve.found 24 3) solvedQ
-  pub read-q : Read.read (replicate 12 7) solvedQ ≡ readingOf (Read.wrote 9 24) (qPlan ++ (7 ∷ 7 ∷ 7 ∷ []))
-  pub check-q : Check.check qPlan solvedQ ≡ Check.allowed 24
+  pub solve-q : Solve.solve 4_096 (standing Q) ≡ doneWith (Solve.found 21 3) solvedQ
+  pub read-q : Read.read (replicate 12 7) solvedQ ≡ readingOf (Read.wrote 9 21) (qPlan ++ (7 ∷ 7 ∷ 7 ∷ []))
+  pub check-q : Check.check qPlan solvedQ ≡ Check.allowed 21
   -- The line from 1 to 0 is closed: the plan is dropped and no longer allowed, and solve finds row 5's.
   pub link-row5 : Link.link (linkOf 1 0 0 1 1) solvedQ ≡ doneWith Link.linked (standing row5)
   pub check-row5 : Check.check qPlan (standing row5) ≡ Check.refused 10 2
-  pub solve-row5 : Solve.solve 4_096 (standing row5) ≡ doneWith (Solve.found 39 3) solvedRow5
+  pub solve-row5 : Solve.solve 4_096 (standing row5) ≡ doneWith (Solve.found 26 3) solvedRow5
   -- The line from 2 to 0 is closed too: no route. Or Q is loaded again, and the plan is dropped.
   pub link-row6 : Link.link (linkOf 2 0 0 1 1) solvedRow5 ≡ doneWith Link.linked (standing row6)
   pub solve-row6 : Solve.solve 4_096 (standing row6) ≡ doneWith (Solve.noRoute 3) (standing row6)

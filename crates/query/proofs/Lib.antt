@@ -1,4 +1,5 @@
 pub mod Limits
 pub mod Prices
+pub mod Charges
 pub mod Linked
 pub mod Indexed

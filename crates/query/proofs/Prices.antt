@@ -1,4 +1,4 @@
--- The prices' limits and laws. Each price is one fixed amount and one rate times a size, and a valid query limits both.
+-- The prices' limits and laws. Each price is one fixed amount and one rate times a count of parcels or bytes, and a valid query limits both.
 use Prim.Native.Nat.{ℕ, _+_, _-_, _*_, _%_, _^_, _≤_, zero-le}
 use native.Mathlib.Nat.{mul-le-mul, mul-le-mul-left, mul-le-mul-right, add-comm, le-refl}
 use native.Mathlib.Omega.{arith}
@@ -15,15 +15,15 @@ use Rattle.query.specs.declared.Query.{Query}
 use Rattle.query.specs.Choice.{pick}
 use Rattle.query.specs.Cost.{none, some}
 use Rattle.query.specs.Query.{Valid, joinFixed, joinRate, isOpen, lineFixed, lineRate, size}
-use Rattle.query.specs.Prices.{linePrice, carriage, read, reads, joinPrice, dearestCarriage}
+use Rattle.query.specs.Prices.{parcels, lineCharge, linePrice, carriage, read, reads, joinPrice, dearestLine, dearestCarriage}
 use Rattle.query.specs.Masks.{countedMask, IsMask}
-use Rattle.query.specs.Theorems.{LineMost, JoinMost, ReadsEither}
+use Rattle.query.specs.Theorems.{ParcelsLaw, LineMost, JoinMost, ReadsEither}
 
--- A fixed amount and a rate times a size, each up to its limit.
+-- A fixed amount and a rate times a count, each up to its limit.
 pub priced-most : (f r x F R X : ℕ) → f ≤ F → r ≤ R → x ≤ X → f + r * x ≤ F + R * X
 priced-most f r x F R X a b c = omega (arith, mul-le-mul b c)
 
--- A rate up to 1,000 times a size up to 3,000,000,000: their short product is the product, and fits 64 bits.
+-- A rate up to 1,000 times a count up to 3,000,000,000: their short product is the product, and fits 64 bits.
 pub short-fits : (r x : ℕ) → r ≤ 1000 → x ≤ 3000000000 → Fits w64 ((r % 4294967296) * (x % 4294967296))
 short-fits r x a b =
     let f : r % 4294967296 ≡ r = omega arith in
@@ -36,6 +36,10 @@ short-is r x a b =
     let f : r % 4294967296 ≡ r = omega arith in
     let g : x % 4294967296 ≡ x = omega arith in
     rw (f, g) (refl, mul-le-mul-right x a)
+
+-- A line's price from the parcels that a size starts.
+pub line-is : (f r x p g : ℕ) → p ≡ parcels x → p ≤ 125000000 → g ≡ r * p → g ≤ 1000 * p → (f + g ≡ lineCharge f r x) × (f + g ≤ f + dearestLine)
+line-is f r x p g started few charged most = (rw (charged, started), omega arith)
 
 -- A mask takes all of a size of at most 32 bits, or nothing.
 pub masked : (m x : ℕ) → IsMask m → x ≤ 1000000000 → (bitAnd x m ≡ read (eqb m 0) x) × (bitAnd x m ≤ x)
@@ -54,9 +58,15 @@ pub mask-spares : (b : Bool) (m : ℕ) → m ≡ countedMask b → eqb m 0 ≡ b
 mask-spares true m e = rw e
 mask-spares false m e = rw e
 
+pub parcels-law : ParcelsLaw
+unfolding parcels
+parcels-law size = record { enough = omega arith; least = λ p h. omega arith }
+
 pub line-most : LineMost
 unfolding linePrice lineFixed lineRate size
-line-most q v P a b = priced-most _ _ _ 1_000_000 1_000 1_000_000_000 (v .line-fixed-most _) (v .line-rate-most _) (v .sizes-most P)
+line-most q v P a b =
+    priced-most _ _ _ 1_000_000 1_000 125_000_000 (v .line-fixed-most _) (v .line-rate-most _)
+    (parcels-law _ .least 125_000_000 (omega (arith, v .sizes-most P)))
 
 pub read-most : (spared : Bool) (x : ℕ) → read spared x ≤ x
 unfolding read

@@ -4,6 +4,7 @@ pub mod Zeros
 pub mod Terms
 pub mod Query
 pub mod Prices
+pub mod Charges
 pub mod Indexed
 pub mod Masks
 pub mod Theorems

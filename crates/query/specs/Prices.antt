@@ -1,5 +1,5 @@
 -- Prices: rules 3.2 to 3.5.
-use Prim.Native.Nat.{ℕ, _+_, _*_}
+use Prim.Native.Nat.{ℕ, _+_, _*_, _/_}
 use mathlib.Core.Bool.{Bool, _&&_}
 use lib.Count.{ones}
 use lib.Dec.{eqb}
@@ -9,9 +9,13 @@ use Rattle.query.specs.Choice.{pick}
 use Rattle.query.specs.Cost.{Cost, none, some}
 use Rattle.query.specs.Query.{relationsOf, home, index, joinFixed, joinRate, isOpen, lineFixed, lineRate, size}
 
--- What a line charges for a size: line fixed + line rate × size.
+-- The parcels of 8 bytes that a size starts: none for 0 bytes, one for 8, two for 9.
+unfoldable pub parcels : ℕ → ℕ
+parcels size = (size + 7) / 8
+
+-- What a line charges for a size: line fixed + line rate × started parcels.
 abbrev pub lineCharge : (fixed rate size : ℕ) → ℕ
-lineCharge fixed rate size = fixed + rate * size
+lineCharge fixed rate size = fixed + rate * parcels size
 
 -- The price of a line from a to b for a set P.
 unfoldable pub linePrice : Query → ℕ → ℕ → ℕ → ℕ
@@ -39,7 +43,7 @@ joinPrice q k a P b R = joinCharge (joinFixed q k) (joinRate q k) (reads a (size
 
 -- What a line, a carriage and a join cost at most, each amount at its limit (rule 2.9). A carriage takes one line.
 abbrev pub dearestLine : ℕ
-dearestLine = 1_000_001_000_000
+dearestLine = 125_001_000_000
 
 abbrev pub dearestCarriage : ℕ
 dearestCarriage = dearestLine

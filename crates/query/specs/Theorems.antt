@@ -1,10 +1,18 @@
 -- What is proved of the prices. The proofs are in proofs/.
-use Prim.Native.Nat.{ℕ, _≤_}
+use Prim.Native.Nat.{ℕ, _*_, _≤_}
 use mathlib.Core.Path.{_≡_}
 use mathlib.Core.Bool.{Bool}
 use Rattle.query.specs.declared.Query.{Query}
 use Rattle.query.specs.Query.{Valid}
-use Rattle.query.specs.Prices.{linePrice, joinPrice, reads, dearestLine, dearestJoin}
+use Rattle.query.specs.Prices.{parcels, linePrice, joinPrice, reads, dearestLine, dearestJoin}
+
+-- The parcels of a size are just enough: they hold it, and fewer do not.
+pub record ParcelsOf (size : ℕ) : Type 0 where
+  pub enough : size ≤ 8 * parcels size
+  pub least : (p : ℕ) → size ≤ 8 * p → parcels size ≤ p
+
+abbrev pub ParcelsLaw : Type 0
+ParcelsLaw = (size : ℕ) → ParcelsOf size
 
 -- No line's price is above that of the dearest line, no join's above that of the dearest join.
 abbrev pub LineMost : Type 0

@@ -13,8 +13,11 @@ pub use zeros::no_sites;
 
 pub mod price;
 
-// A count of bytes. Only a rate turns it into charge units.
+// A count of bytes: a size. A join charges by it.
 pub struct Bytes(pub u64);
+
+// A count of parcels of 8 bytes. A line charges by it.
+pub struct Parcels(pub u64);
 
 // A count of charge units: a price or a cost.
 pub struct Charge(pub u64);

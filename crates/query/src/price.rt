@@ -1,34 +1,44 @@
-// The prices. Only these functions turn bytes into charge units. The checker and the solver both use them.
+// The prices. Only these functions turn bytes into parcels, and bytes or parcels into charge units. The checker and the solver both use them.
 use crate::Bytes;
 use crate::Charge;
+use crate::Parcels;
 use relations::wide;
 ghost use mathlib.Core.Path.{_≡_};
 ghost use Prim.Native.Nat.{_+_, _*_, _^_, _≤_, _<_};
 ghost use lib.Dec.{eqb};
 ghost use lib.ListN.{length};
 ghost use Rattle.relations.specs.Code.{mostSets};
-ghost use Rattle.query.specs.Prices.{lineCharge, read, reads, joinCharge};
+ghost use Rattle.query.specs.Prices.{parcels, lineCharge, read, reads, joinCharge, dearestLine};
 ghost use Rattle.query.specs.Indexed.{indexedIn};
 ghost use Rattle.query.specs.Masks.{countedMask, IsMask};
 
 // The mask of a read that counts; that of a spared read is 0.
 const COUNTS: u64 = 4294967295;
 
-// A rate times a size: all that a line or a join charges beyond its fixed amount. Both have at most 32 bits: a short product.
-fn rated(rate: u64, size: Bytes) -> Charge
-    requires { ⌜ (rate ≤ 1000) × (size .0 ≤ 3000000000) ⌝ }
-    ensures { λ r. ⌜ (r .0 ≡ rate * size .0) × (r .0 ≤ 1000 * size .0) ⌝ }
+// A rate times a count of parcels or bytes: all that a line or a join charges beyond its fixed amount. Both have at most 32 bits: a short product.
+fn rated(rate: u64, count: u64) -> Charge
+    requires { ⌜ (rate ≤ 1000) × (count ≤ 3000000000) ⌝ }
+    ensures { λ r. ⌜ (r .0 ≡ rate * count) × (r .0 ≤ 1000 * count) ⌝ }
 {
-    Charge((rate % 4294967296) * (size.0 % 4294967296))
+    Charge((rate % 4294967296) * (count % 4294967296))
 }
 
-// The price of a line for what is sent: line fixed + line rate × size.
+// The parcels that a size starts.
+fn parcels(size: Bytes) -> Parcels
+    requires { ⌜ size .0 ≤ 1000000000 ⌝ }
+    ensures { λ r. ⌜ (r .0 ≡ parcels (size .0)) × (r .0 ≤ 125000000) ⌝ }
+{
+    Parcels((size.0 + 7) / 8)
+}
+
+// The price of a line for what is sent: line fixed + line rate × started parcels.
 pub fn line_price(fixed: Charge, rate: u64, size: Bytes) -> Charge
     requires { ⌜ (fixed .0 ≤ 2 ^ 60) × ((rate ≤ 1000) × (size .0 ≤ 1000000000)) ⌝ }
-    ensures { λ r. ⌜ (r .0 ≡ lineCharge (fixed .0) rate (size .0)) × (r .0 ≤ fixed .0 + 1000000000000) ⌝ }
+    ensures { λ r. ⌜ (r .0 ≡ lineCharge (fixed .0) rate (size .0)) × (r .0 ≤ fixed .0 + dearestLine) ⌝ }
 {
-    let sent = rated(rate, size);
-    Charge(fixed.0 + sent.0)
+    let sent = parcels(size);
+    let carried = rated(rate, sent.0);
+    Charge(fixed.0 + carried.0)
 }
 
 // The mask of an operand's read.
@@ -61,8 +71,9 @@ pub fn join_price(fixed: Charge, rate: u64, reads: Bytes, result: Bytes) -> Char
     requires { ⌜ (fixed .0 ≤ 2 ^ 60) × ((rate ≤ 1000) × ((reads .0 ≤ 2000000000) × (result .0 ≤ 1000000000))) ⌝ }
     ensures { λ r. ⌜ (r .0 ≡ joinCharge (fixed .0) rate (reads .0) (result .0)) × (r .0 ≤ fixed .0 + 3000000000000) ⌝ }
 {
-    let work = rated(rate, Bytes(reads.0 + result.0));
-    Charge(fixed.0 + work.0)
+    let work = Bytes(reads.0 + result.0);
+    let done = rated(rate, work.0);
+    Charge(fixed.0 + done.0)
 }
 
 // Whether a set at a site is read by its index: it is one relation, the site is its home, and its index flag is set.

@@ -13,7 +13,7 @@ use mir.Val.{Fits}
 use Rattle.query.specs.declared.Relations.{Relations}
 use Rattle.query.specs.declared.Query.{Query}
 use Rattle.query.specs.Query.{UpTo, home, index, lineFixed, lineRate, size, joinFixed, joinRate}
-use Rattle.query.specs.Prices.{linePrice, reads, joinPrice, indexed}
+use Rattle.query.specs.Prices.{lineCharge, linePrice, reads, joinPrice, dearestLine, indexed}
 use Rattle.query.specs.Indexed.{indexedIn}
 use Rattle.query.specs.Masks.{countedMask}
 use Rattle.query.proofs.Prices.{mask-spares}
@@ -30,7 +30,7 @@ up-to limit l i v h e = omega (arith, h i)
 pub amount-low : (l : List ℕ) (i v : ℕ) → UpTo 1_000_000 l → v ≡ getD l i 0 → v ≤ 2 ^ 60
 amount-low l i v h e = omega (arith, h i)
 
-pub sent-fits : (l : List ℕ) (i f p g : ℕ) → UpTo 1_000_000 l → f ≡ getD l i 0 → p ≤ f + 1000000000000 → g < 2 ^ 62 → Fits w64 (g + p)
+pub sent-fits : (l : List ℕ) (i f p g : ℕ) → UpTo 1_000_000 l → f ≡ getD l i 0 → p ≤ f + dearestLine → g < 2 ^ 62 → Fits w64 (g + p)
 sent-fits l i f p g h e m low = record { fits = omega (arith, h i) }
 
 pub past-end : (l : List ℕ) (i : ℕ) → length l ≤ i → 0 ≡ getD l i 0
@@ -51,7 +51,7 @@ pub spared-is : (R : Relations) (h : Held) (a b : Bool) → R .count ≤ 9 → h
 unfolding spared
 spared-is R h a b l below e f = rw (e, f, indexed-in (ofRelations R) 9 (h .set) (h .site) below l)
 
-pub sent-is : (q : Query) (h : Held) (t f r z p : ℕ) → f ≡ lineFixed q (h .site) t → r ≡ lineRate q (h .site) t → z ≡ size q (h .set) → p ≡ f + r * z →
+pub sent-is : (q : Query) (h : Held) (t f r z p : ℕ) → f ≡ lineFixed q (h .site) t → r ≡ lineRate q (h .site) t → z ≡ size q (h .set) → p ≡ lineCharge f r z →
     _≡_ {A = Held} (record { set = h .set; site = t; origin = Sent; figure = charge (h .figure .0 + p) }) (sentTo q t h)
 unfolding linePrice
 sent-is q h t f r z p e1 e2 e3 e4 = rw (e4, e1, e2, e3)

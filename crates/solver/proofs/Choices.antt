@@ -21,6 +21,7 @@ use Rattle.relations.proofs.Turns.{below-sets}
 use Rattle.query.specs.declared.Query.{Query}
 use Rattle.query.specs.Choice.{pick}
 use Rattle.query.specs.Query.{relationsOf, sitesOf}
+use Rattle.query.specs.Prices.{dearestLine}
 use Rattle.rules.specs.Combine.{Combines}
 use Rattle.board.specs.declared.figures.Choice.{Choice}
 use Rattle.board.specs.Figures.{noneMark, placeOf, ChoiceOf, betterOf, Lanes, Marked}
@@ -73,7 +74,7 @@ pub site-more : (row : ℕ → ℕ) (b : List ℕ) (size t k x r : ℕ) (kept ma
 unfolding siteTrial
 site-more row b size t k x r kept made c x-is r-is made-is = choice-more _ k (x + r) kept made c (rw (x-is, r-is)) made-is
 
-pub site-fits : (row b : List ℕ) (size k s x : ℕ) → Marked row → Carriable b size → k < s → s ≡ sitesAt b → x ≤ noneMark + 1_000_000_000_000 →
+pub site-fits : (row b : List ℕ) (size k s x : ℕ) → Marked row → Carriable b size → k < s → s ≡ sitesAt b → x ≤ noneMark + dearestLine →
     Fits w64 (getD row k 0 + x)
 site-fits row b size k s x marked lines h is most = record { fits = omega (arith, marked .most k (omega (arith, lines .few)), most) }
 

@@ -105,15 +105,15 @@ pub data Row : Type 0 where
 
 abbrev pub rows : List Row
 rows =
-    costs Q (some 24)
-    ∷ costs (withTarget 2 Q) (some 28)
-    ∷ costs (withIndex (1 ∷ []) Q) (some 14)
-    ∷ costs (withMay (0 ∷ 1 ∷ 1 ∷ []) Q) (some 34)
-    ∷ costs (withLines (closing 1 0 (Q .lines)) Q) (some 39)
+    costs Q (some 21)
+    ∷ costs (withTarget 2 Q) (some 23)
+    ∷ costs (withIndex (1 ∷ []) Q) (some 11)
+    ∷ costs (withMay (0 ∷ 1 ∷ 1 ∷ []) Q) (some 24)
+    ∷ costs (withLines (closing 1 0 (Q .lines)) Q) (some 26)
     ∷ costs (withLines (closing 2 0 (closing 1 0 (Q .lines))) Q) none
     ∷ joinsAt (withLines (everyLine 3 3 (record { flag = 1; fixed = 0; rate = 0 })) Q) (some 19) 0
     ∷ takes (alone Q) (some 0) 1 0
-    ∷ costs (withTarget 1 (alone Q)) (some 11)
+    ∷ costs (withTarget 1 (alone Q)) (some 3)
     ∷ counts chainOfNine 45
     ∷ counts starOfNine 264
     ∷ []

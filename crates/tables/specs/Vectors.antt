@@ -45,7 +45,7 @@ twoPairs =
 abbrev pub vectors : List Vector
 vectors =
     -- Q: load 0, load 1, send 0, join 0.
-    record { query = Q; cost = 24; trials = 3; plan = 4 ∷ 1 ∷ 0 ∷ 1 ∷ 1 ∷ 2 ∷ 0 ∷ 3 ∷ 0 ∷ [] }
+    record { query = Q; cost = 21; trials = 3; plan = 4 ∷ 1 ∷ 0 ∷ 1 ∷ 1 ∷ 2 ∷ 0 ∷ 3 ∷ 0 ∷ [] }
     -- Lines for nothing and delivery 1: each site is as good, so it is joined at site 0, the lowest, and sent to 1.
     ∷ record {
       query = withTarget 1 (withLines (everyLine 3 3 (record { flag = 1; fixed = 0; rate = 0 })) Q);
@@ -58,7 +58,7 @@ vectors =
     -- Relation 0 has its index but is sent to site 1, so it is read.
     ∷ record {
       query = withIndex (1 ∷ []) (withMay (0 ∷ 1 ∷ 1 ∷ []) Q);
-      cost = 34;
+      cost = 24;
       trials = 3;
       plan = 5 ∷ 1 ∷ 0 ∷ 2 ∷ 1 ∷ 1 ∷ 1 ∷ 3 ∷ 0 ∷ 2 ∷ 0 ∷ [];
     }

@@ -4,4 +4,4 @@ use Rattle.query.proofs.price.rated.Statement.{statement}
 use Rattle.query.proofs.price.rated.Tie as tie
 
 pub rated-spec : {M : Type 1} → statement M
-rated-spec = tie.close (tie.spec (λ c. short-fits _ _ (c .before .pre .0) (c .before .pre .1)) (λ c. short-is _ _ (c .before .pre .0) (c .before .pre .1)))
+rated-spec = tie.close (tie.spec (λ c. short-fits _ _ (c .pre .0) (c .pre .1)) (λ c. short-is _ _ (c .pre .0) (c .pre .1)))
