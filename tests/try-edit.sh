@@ -6,8 +6,8 @@ cd "$(dirname "$0")/.."
 [ $# -eq 2 ] && [ -f "crates/$1/must-fail/$2.edit" ] || { echo "usage: try-edit.sh CRATE NAME, an edit of crates/CRATE/must-fail" >&2; exit 2; }
 rt check "$1" >/dev/null || { echo "$1 is not proved as it is" >&2; exit 2; }
 copy=target/try-edit
-mkdir -p "$copy/target"
-rm -rf "$copy/crates" && cp -a crates crates.txt "$copy"
+rm -rf "$copy" && mkdir -p "$copy/target"
+cp -a crates crates.txt "$copy"
 cp -a target/rlib target/stamp target/log "$copy/target"
 python3 - "$copy/crates/$1" "$2" <<'END'
 import sys

@@ -15,7 +15,7 @@ use Rattle.query.specs.declared.Query.{Query}
 use Rattle.query.specs.Choice.{pick}
 use Rattle.query.specs.Cost.{none, some}
 use Rattle.query.specs.Query.{Valid, joinFixed, joinRate, isOpen, lineFixed, lineRate, size}
-use Rattle.query.specs.Prices.{parcels, lineCharge, linePrice, carriage, read, reads, joinPrice, dearestLine, dearestCarriage}
+use Rattle.query.specs.Prices.{parcels, linePrice, carriage, read, reads, joinPrice, dearestLine, dearestCarriage}
 use Rattle.query.specs.Masks.{countedMask, IsMask}
 use Rattle.query.specs.Theorems.{ParcelsLaw, LineMost, JoinMost, ReadsEither}
 
@@ -37,9 +37,9 @@ short-is r x a b =
     let g : x % 4294967296 ≡ x = omega arith in
     rw (f, g) (refl, mul-le-mul-right x a)
 
--- A line's price from the parcels that a size starts.
-pub line-is : (f r x p g : ℕ) → p ≡ parcels x → p ≤ 125000000 → g ≡ r * p → g ≤ 1000 * p → (f + g ≡ lineCharge f r x) × (f + g ≤ f + dearestLine)
-line-is f r x p g started few charged most = (rw (charged, started), omega arith)
+-- What a rate charges for the parcels that a size starts.
+pub carried-is : (r x p g : ℕ) → p ≡ parcels x → p ≤ 125_000_000 → g ≡ r * p → g ≤ 1_000 * p → (g ≡ r * parcels x) × (g ≤ dearestLine)
+carried-is r x p g started few charged most = (rw (charged, started), omega arith)
 
 -- A mask takes all of a size of at most 32 bits, or nothing.
 pub masked : (m x : ℕ) → IsMask m → x ≤ 1000000000 → (bitAnd x m ≡ read (eqb m 0) x) × (bitAnd x m ≤ x)

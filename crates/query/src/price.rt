@@ -31,14 +31,22 @@ fn parcels(size: Bytes) -> Parcels
     Parcels((size.0 + 7) / 8)
 }
 
+// What a line charges for the parcels that a size starts.
+fn carried(rate: u64, size: Bytes) -> Charge
+    requires { ⌜ (rate ≤ 1000) × (size .0 ≤ 1000000000) ⌝ }
+    ensures { λ r. ⌜ (r .0 ≡ rate * parcels (size .0)) × (r .0 ≤ dearestLine) ⌝ }
+{
+    let started = parcels(size);
+    rated(rate, started.0)
+}
+
 // The price of a line for what is sent: line fixed + line rate × started parcels.
 pub fn line_price(fixed: Charge, rate: u64, size: Bytes) -> Charge
     requires { ⌜ (fixed .0 ≤ 2 ^ 60) × ((rate ≤ 1000) × (size .0 ≤ 1000000000)) ⌝ }
     ensures { λ r. ⌜ (r .0 ≡ lineCharge (fixed .0) rate (size .0)) × (r .0 ≤ fixed .0 + dearestLine) ⌝ }
 {
-    let sent = parcels(size);
-    let carried = rated(rate, sent.0);
-    Charge(fixed.0 + carried.0)
+    let sent = carried(rate, size);
+    Charge(fixed.0 + sent.0)
 }
 
 // The mask of an operand's read.

@@ -5,3 +5,4 @@ pub mod Work
 pub mod Theorems
 pub mod Rows
 pub mod Vectors
+pub mod Dearest
