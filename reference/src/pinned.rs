@@ -120,6 +120,15 @@ pub fn joined_and_sent(size: u64) -> Query {
     query
 }
 
+/// Q with a parcel each, delivered to site 2: every site is as good, so site 0 joins. By the
+/// byte site 2 would be cheaper.
+pub fn a_parcel_each() -> Query {
+    let mut query = q();
+    query.sizes = sizes(&[7, 7, 8]);
+    query.delivery = 2;
+    query
+}
+
 /// A tie that tells "lowest site over all" from "the asked site first": everything
 /// is free, so relation 0's home 0 wins over the asked site 1.
 pub fn lower_site_at_a_tie() -> Query {

@@ -7,6 +7,7 @@ use reference::pinned;
 use reference::pinned_calls;
 use reference::query::{Line, Query};
 use reference::random::Random;
+use reference::step::Step;
 use reference::units::{Bytes, Charge, Parcels, Rate};
 use reference::{check, decode, encode, exhaustive, listing, prices, solve, step};
 
@@ -87,9 +88,16 @@ fn the_carriers_parcels() {
     }
 }
 
-/// By the parcel and by the byte the star of examples/ has two cheapest plans.
+/// By the parcel and by the byte the cheapest plans differ.
 #[test]
-fn a_plan_that_parcels_change() {
+fn plans_that_parcels_change() {
+    let query = pinned::a_parcel_each();
+    let expected = "plan 5 cost 28 trials 3\nload 0\nload 1\nsend 0\njoin 0\nsend 2\n";
+    assert_eq!(list(&query), expected);
+    assert_eq!(exhaustive::cheapest(&query), Ok(Some(Charge(28))));
+    let by_the_byte = solve::solve(&query, Method::LinesByTheByte).unwrap();
+    assert_eq!((by_the_byte.steps[1], by_the_byte.cost), (Step::Send { to: 2 }, Charge(40)));
+
     let file = std::fs::read("../examples/star-of-nine.query").unwrap();
     let star = decode::decode(&file).unwrap();
     let (plan, by_the_byte) = [Method::Rules, Method::LinesByTheByte]

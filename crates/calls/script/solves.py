@@ -1,5 +1,5 @@
 """Queries that are solved, their plans read and checked. Each case states what load and solve print, and the plan."""
-from script.queries import LONGEST, SITES, alone, chain, closed, every, file, q, star
+from script.queries import LONGEST, RELATIONS, SITES, alone, chain, closed, every, file, q, star
 from script.records import check, load, read, solve, steps, wrote
 
 FREE = (1, 0, 0)
@@ -46,6 +46,12 @@ def parcels():
         yield from found(file(SITES[:2], relations[:1], [], lambda subquery: size, lines, 1), "load 1 1", f"solve {sent} 0", "l0 s1")
         sites = [SITES[0], (0, 2, 1)]
         yield from found(file(sites, relations, chain(2), lambda subquery: size, lines, 1), "load 2 3", f"solve {both} 2", "l0 l1 j0 s1")
+    # a parcel each, so that every site is as good; by the byte site 2 would be cheaper
+    query = file(SITES, RELATIONS, chain(2), {1: 7, 2: 7, 3: 8}.get, every(1, 1, 1), 2)
+    yield from found(query, "load 2 3", "solve 28 3", "l0 l1 s0 j0 s2")
+    # no bytes are sent for the fixed amount alone
+    query = file(SITES, RELATIONS, chain(2), {1: 10, 2: 0, 3: 3}.get, every(1, 1, 1), 0)
+    yield from found(query, "load 2 3", "solve 16 3", "l0 l1 s0 j0")
 
 
 def larger():

@@ -13,6 +13,10 @@ use Rattle.tables.specs.Tables.{cheapest, trials}
 use Rattle.tables.specs.Written.{written}
 use Rattle.tables.specs.Rows.{filled, everyLine, Q, withTarget, withIndex, withMay, withLines, same}
 
+abbrev pub withSizes : List ℕ → Query → Query
+withSizes l q =
+    record { sites = q .sites; relations = q .relations; joins = q .joins; sizes = filled mostSets l; lines = q .lines; target = q .target }
+
 pub record Vector : Type 0 where
   pub query : Query
   pub cost : ℕ
@@ -53,6 +57,15 @@ vectors =
       trials = 3;
       plan = 5 ∷ 1 ∷ 0 ∷ 1 ∷ 1 ∷ 2 ∷ 0 ∷ 3 ∷ 0 ∷ 2 ∷ 1 ∷ [];
     }
+    -- Sizes 7, 7 and 8 start a parcel each, so each site is as good, and site 0 is taken; by the byte site 2 would be cheaper.
+    ∷ record {
+      query = withTarget 2 (withSizes (0 ∷ 7 ∷ 7 ∷ 8 ∷ []) Q);
+      cost = 28;
+      trials = 3;
+      plan = 5 ∷ 1 ∷ 0 ∷ 1 ∷ 1 ∷ 2 ∷ 0 ∷ 3 ∷ 0 ∷ 2 ∷ 2 ∷ [];
+    }
+    -- Relation 1 has 0 bytes and is sent for the fixed amount alone.
+    ∷ record { query = withSizes (0 ∷ 10 ∷ 0 ∷ 3 ∷ []) Q; cost = 16; trials = 3; plan = 4 ∷ 1 ∷ 0 ∷ 1 ∷ 1 ∷ 2 ∷ 0 ∷ 3 ∷ 0 ∷ [] }
     -- Join 0, the lowest, is the last; of join 1, relation 2, its first, is written first.
     ∷ record { query = evenChain; cost = 10; trials = 4; plan = 5 ∷ 1 ∷ 0 ∷ 1 ∷ 2 ∷ 1 ∷ 1 ∷ 3 ∷ 1 ∷ 3 ∷ 0 ∷ [] }
     -- Relation 0 has its index but is sent to site 1, so it is read.

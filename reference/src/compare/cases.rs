@@ -12,6 +12,7 @@ use crate::random::Random;
 pub fn fixed() -> Vec<Vec<u8>> {
     let mut pinned: Vec<Query> = pinned::rows().into_iter().map(|(query, _)| query).collect();
     pinned.extend([pinned::chain_of_five(), pinned::bushy_four(), pinned::lower_site_at_a_tie()]);
+    pinned.push(pinned::a_parcel_each());
     pinned.extend([pinned::uniform(pinned::star(9), 8), pinned::uniform(pinned::chain(9), 8)]);
     pinned.extend(pinned::PARCELS.map(|(size, _)| pinned::sent(size)));
     pinned.extend(pinned::PARCELS.map(|(size, _)| pinned::joined_and_sent(size)));
