@@ -23,12 +23,14 @@ fn rated(rate: u64, count: u64) -> Charge
     Charge((rate % 4294967296) * (count % 4294967296))
 }
 
-// The parcels that a size starts.
+// The parcels that a size starts. Counted in 32 bits, which is what lets the compiler keep the product with a rate a short one.
 fn parcels(size: Bytes) -> Parcels
     requires { ⌜ size .0 ≤ 1000000000 ⌝ }
     ensures { λ r. ⌜ (r .0 ≡ parcels (size .0)) × (r .0 ≤ 125000000) ⌝ }
 {
-    Parcels((size.0 + 7) / 8)
+    let bytes = size.0 as u32;
+    let started = (bytes + 7) / 8;
+    Parcels(started as u64)
 }
 
 // What a line charges for the parcels that a size starts.

@@ -82,8 +82,8 @@ Seed {seed}; {queries} random queries for each shape, each n from {} to {} and e
 | size of a relation | {}, all orders of magnitude alike |
 | size of a result | product of the relations' sizes over the divisors of its joins, 1 to {MOST_SIZE} |
 | divisor of a join | half the smaller to twice the larger of its relations, all orders of magnitude alike |
-| line fixed; line rate | {}; {}, evenly |
-| join fixed; join rate | {}; {}, evenly |
+| line fixed; line rate, for each parcel | {}; {}, evenly |
+| join fixed; join rate, for each byte | {}; {}, evenly |
 | index | {} relations of 100 |",
         RELATIONS.start(),
         RELATIONS.end(),

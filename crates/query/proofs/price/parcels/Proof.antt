@@ -6,4 +6,4 @@ use Rattle.query.proofs.price.parcels.Tie as tie
 
 pub parcels-spec : {M : Type 1} → statement M
 unfolding parcels
-parcels-spec = tie.close (tie.spec (λ c. search needs) (λ c. search needs))
+parcels-spec = tie.close (tie.spec (λ c. search needs) (λ c. search needs) (λ c. search needs) (λ c. search needs))
