@@ -210,7 +210,7 @@ int plain_load(plain_query *q, const uint8_t *file, size_t length)
 
 INLINED double lesser(double a, double b) { return a < b ? a : b; }
 
-/* Those that a size starts: none for no bytes. */
+/* Those that a size starts: none for 0 bytes. */
 INLINED double parcels(uint32_t size) { return (int)((size + PARCEL - 1) / PARCEL); }
 
 /* A bare relation as an operand at each site. */

@@ -24,11 +24,11 @@ pub enum Method {
     LinesByTheByte,
     /// A parcel that is not full goes for nothing.
     FullParcelsOnly,
-    /// No bytes take a parcel too.
+    /// 0 bytes take a parcel too.
     ParcelForNothing,
-    /// No bytes are sent without the fixed amount.
+    /// 0 bytes are sent without the fixed amount.
     NothingSentForNothing,
-    /// A join charges for parcels too.
+    /// A join charges for parcels, as a line does.
     JoinsByTheParcel,
     /// Among equal sites takes the highest.
     HighestSite,

@@ -252,8 +252,8 @@ fn dearest() -> Vec<Call> {
     vec![load(&query), check(&plan), check(&plan[..68]), check(&one_more), SOLVE, read(69)]
 }
 
-/// A send of each size, of a relation and of a joined result, solved and checked; then
-/// charged otherwise by a link.
+/// A send of each size, solved and checked: of a relation, before and after a link that
+/// charges otherwise, and of a joined result.
 fn parcels() -> Vec<Call> {
     let mut calls = Vec::new();
     for (size, _) in pinned::PARCELS {

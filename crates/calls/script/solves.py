@@ -49,7 +49,7 @@ def parcels():
     # a parcel each, so that every site is as good; by the byte site 2 would be cheaper
     query = file(SITES, RELATIONS, chain(2), {1: 7, 2: 7, 3: 8}.get, every(1, 1, 1), 2)
     yield from found(query, "load 2 3", "solve 28 3", "l0 l1 s0 j0 s2")
-    # no bytes are sent for the fixed amount alone
+    # 0 bytes are sent for the fixed amount alone
     query = file(SITES, RELATIONS, chain(2), {1: 10, 2: 0, 3: 3}.get, every(1, 1, 1), 0)
     yield from found(query, "load 2 3", "solve 16 3", "l0 l1 s0 j0")
 
