@@ -15,7 +15,7 @@ use Rattle.query.specs.declared.Query.{Query}
 use Rattle.query.specs.Choice.{pick}
 use Rattle.query.specs.Cost.{none, some}
 use Rattle.query.specs.Query.{Valid, joinFixed, joinRate, isOpen, lineFixed, lineRate, size}
-use Rattle.query.specs.Prices.{parcels, linePrice, carriage, read, reads, joinPrice, dearestLine, dearestCarriage}
+use Rattle.query.specs.Prices.{parcels, linePrice, carriage, read, reads, joinPrice, mostParcels, dearestLine, dearestCarriage}
 use Rattle.query.specs.Masks.{countedMask, IsMask}
 use Rattle.query.specs.Theorems.{ParcelsLaw, LineMost, JoinMost, ReadsEither}
 
@@ -38,7 +38,7 @@ short-is r x a b =
     rw (f, g) (refl, mul-le-mul-right x a)
 
 -- What a rate charges for the parcels that a size starts.
-pub carried-is : (r x p g : ℕ) → p ≡ parcels x → p ≤ 125_000_000 → g ≡ r * p → g ≤ 1_000 * p → (g ≡ r * parcels x) × (g ≤ dearestLine)
+pub carried-is : (r x p g : ℕ) → p ≡ parcels x → p ≤ mostParcels → g ≡ r * p → g ≤ 1_000 * p → (g ≡ r * parcels x) × (g ≤ dearestLine)
 carried-is r x p g started few charged most = (rw (charged, started), omega arith)
 
 -- A mask takes all of a size of at most 32 bits, or nothing.
@@ -65,8 +65,8 @@ parcels-law size = record { enough = omega arith; least = λ p h. omega arith }
 pub line-most : LineMost
 unfolding linePrice lineFixed lineRate size
 line-most q v P a b =
-    priced-most _ _ _ 1_000_000 1_000 125_000_000 (v .line-fixed-most _) (v .line-rate-most _)
-    (parcels-law _ .least 125_000_000 (omega (arith, v .sizes-most P)))
+    priced-most _ _ _ 1_000_000 1_000 mostParcels (v .line-fixed-most _) (v .line-rate-most _)
+    (parcels-law _ .least mostParcels (omega (arith, v .sizes-most P)))
 
 pub read-most : (spared : Bool) (x : ℕ) → read spared x ≤ x
 unfolding read

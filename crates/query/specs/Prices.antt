@@ -41,7 +41,11 @@ joinCharge fixed rate reads result = fixed + rate * (reads + result)
 unfoldable pub joinPrice : Query → ℕ → Bool → ℕ → Bool → ℕ → ℕ
 joinPrice q k a P b R = joinCharge (joinFixed q k) (joinRate q k) (reads a (size q P) b (size q R)) (size q (P + R))
 
--- What a line, a carriage and a join cost at most, each amount at its limit (rule 2.9). A carriage takes one line.
+-- How many parcels a size starts at most; and what a line, a carriage and a join cost at most, each amount at its limit (rule 2.9). A carriage
+-- takes one line.
+abbrev pub mostParcels : ℕ
+mostParcels = 125_000_000
+
 abbrev pub dearestLine : ℕ
 dearestLine = 125_001_000_000
 

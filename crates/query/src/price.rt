@@ -8,7 +8,7 @@ ghost use Prim.Native.Nat.{_+_, _*_, _^_, _≤_, _<_};
 ghost use lib.Dec.{eqb};
 ghost use lib.ListN.{length};
 ghost use Rattle.relations.specs.Code.{mostSets};
-ghost use Rattle.query.specs.Prices.{parcels, lineCharge, read, reads, joinCharge, dearestLine};
+ghost use Rattle.query.specs.Prices.{parcels, lineCharge, read, reads, joinCharge, mostParcels, dearestLine};
 ghost use Rattle.query.specs.Indexed.{indexedIn};
 ghost use Rattle.query.specs.Masks.{countedMask, IsMask};
 
@@ -26,7 +26,7 @@ fn rated(rate: u64, count: u64) -> Charge
 // The parcels that a size starts. Counted in 32 bits, which is what lets the compiler keep the product with a rate a short one.
 fn parcels(size: Bytes) -> Parcels
     requires { ⌜ size .0 ≤ 1000000000 ⌝ }
-    ensures { λ r. ⌜ (r .0 ≡ parcels (size .0)) × (r .0 ≤ 125000000) ⌝ }
+    ensures { λ r. ⌜ (r .0 ≡ parcels (size .0)) × (r .0 ≤ mostParcels) ⌝ }
 {
     let bytes = size.0 as u32;
     let started = (bytes + 7) / 8;
