@@ -10,7 +10,7 @@ use Rattle.tables.specs.Theorems.{mostCost}
 use Rattle.tables.specs.Rows.{chainOfNine}
 
 -- Nine relations in a chain, all at home at site 0 and without an index; three sites that may join, every line open, delivery 0; every size, fixed
--- amount and rate at its limit.
+-- amount and rate at its limit. (The lists hold the limit also where there is no subquery, site or line; no price looks there.)
 abbrev pub atTheLimits : Query
 atTheLimits =
     record {
