@@ -7,16 +7,16 @@
 import sys
 
 sys.dont_write_bytecode = True
-from script import checks, loads, solves, states  # noqa: E402
+from script import areas, checks, loads, solves, states  # noqa: E402
 from script.records import solve  # noqa: E402
 
 
 def script():
-    for group in states, loads, solves, checks:
+    for group in states, areas, loads, solves, checks:
         yield from group.script()
     # an unknown record ends the run
-    yield b"\x06", []
-    yield solve(4096), []
+    yield b"\x03", []
+    yield solve(4096, 69), []
 
 
 if len(sys.argv) not in (2, 3):

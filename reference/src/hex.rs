@@ -1,4 +1,4 @@
-//! Bytes as lower-case hex, for logs and the read line of `calls`.
+//! Bytes as lower-case hex, for logs and the outputs that `calls` prints.
 
 use std::fmt::Write;
 

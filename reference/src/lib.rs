@@ -5,6 +5,7 @@
 //! `tables` (the two tables), `planner` (the calls). `generate` makes queries,
 //! files, plans and call lists; `compare` holds built programs to the model.
 
+pub mod answers;
 pub mod c_call;
 pub mod check;
 pub mod compare;
@@ -19,6 +20,7 @@ pub mod method;
 pub mod older;
 pub mod pinned;
 pub mod pinned_calls;
+pub mod pinned_solves;
 pub mod planner;
 pub mod prices;
 pub mod query;

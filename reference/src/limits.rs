@@ -8,6 +8,8 @@ pub const MOST_RATE: u64 = 1_000;
 /// The bytes of a full parcel.
 pub const PARCEL: u64 = 8;
 pub const MOST_STEPS: usize = 34;
+/// The bytes of a plan with so many steps.
+pub const LONGEST_PLAN: usize = 1 + 2 * MOST_STEPS;
 pub const LONGEST_FILE: usize = 1_674;
 /// Cells that solve needs, and the only ones that it may write.
 pub const WORK_CELLS: usize = 4_096;

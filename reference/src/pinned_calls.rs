@@ -3,7 +3,7 @@
 //! with its place; sizes at and beside full parcels.
 
 use crate::encode::encode;
-use crate::limits::{MOST_FIXED, MOST_RATE, MOST_SIZE};
+use crate::limits::{LONGEST_PLAN, MOST_FIXED, MOST_RATE, MOST_SIZE, WORK_CELLS};
 use crate::pinned;
 use crate::planner::Link;
 use crate::query::{Line, Query, Relation, Site};
@@ -14,7 +14,7 @@ use crate::units::{Bytes, Charge, Rate};
 pub fn lists() -> Vec<Vec<Call>> {
     vec![
         nothing_loaded(),
-        refusals_keep_the_plan(),
+        refusals_leave_the_query(),
         links(),
         no_route(),
         checks(),
@@ -24,21 +24,22 @@ pub fn lists() -> Vec<Vec<Call>> {
     ]
 }
 
-const SOLVE: Call = Call::Solve { cells: 4_096 };
+/// Enough cells for every query, and an output that every plan fits.
+pub const SOLVE: Call = Call::Solve { cells: WORK_CELLS as u32, output: LONGEST_PLAN as u32 };
 
-fn load(query: &Query) -> Call {
+pub fn load(query: &Query) -> Call {
     Call::Load { file: encode(query) }
 }
 
-fn link(sender: u64, receiver: u64, open: u64, fixed: u64, rate: u64) -> Call {
+pub fn link(sender: u64, receiver: u64, open: u64, fixed: u64, rate: u64) -> Call {
     Call::Link(Link { sender, receiver, open, fixed, rate })
 }
 
-fn read(length: u32) -> Call {
-    Call::Read { length }
+pub fn solve(cells: u32, output: u32) -> Call {
+    Call::Solve { cells, output }
 }
 
-fn check(plan: &[u8]) -> Call {
+pub fn check(plan: &[u8]) -> Call {
     Call::Check { plan: plan.to_vec() }
 }
 
@@ -46,9 +47,9 @@ fn check(plan: &[u8]) -> Call {
 fn nothing_loaded() -> Vec<Call> {
     vec![
         SOLVE,
-        Call::Solve { cells: 0 },
-        read(0),
-        read(100),
+        solve(0, 0),
+        solve(0, 69),
+        solve(4_096, 0),
         check(&[]),
         check(&[1, 1, 0]),
         link(0, 0, 2, u64::MAX, u64::MAX),
@@ -57,32 +58,29 @@ fn nothing_loaded() -> Vec<Call> {
     ]
 }
 
-/// A refused call keeps query and plan; a link that changes nothing drops the plan.
-fn refusals_keep_the_plan() -> Vec<Call> {
+/// After a refused call, and after a link that changes nothing, the query answers as before;
+/// more than can be lent is lent as all.
+fn refusals_leave_the_query() -> Vec<Call> {
     let q = pinned::q();
     let file = encode(&q);
     vec![
         load(&q),
-        read(9),
-        Call::Solve { cells: 4_095 },
-        Call::Solve { cells: 4_097 },
-        read(9),
-        read(8),
-        read(0),
-        read(10),
+        solve(4_095, 9),
+        solve(4_097, 9),
         Call::Load { file: file[..106].to_vec() },
         Call::Load { file: [file.clone(), vec![0]].concat() },
-        Call::Solve { cells: 0 },
+        solve(4_096, 9),
+        solve(0, 9),
         link(1, 1, 1, 1, 1),
         link(0, 1, 2, 1, 1),
-        read(9),
+        solve(4_096, 10),
+        solve(4_096, 8),
         link(0, 1, 1, 1, 1),
-        read(9),
-        read(0),
-        Call::Solve { cells: 8_192 },
-        read(4_096),
+        solve(4_096, 9),
+        solve(8_192, 4_096),
+        solve(u32::MAX, u32::MAX),
         load(&q),
-        read(9),
+        solve(4_096, 9),
     ]
 }
 
@@ -116,37 +114,29 @@ fn links() -> Vec<Call> {
         SOLVE,
         link(0, 1, 1, 0, 0),
         SOLVE,
-        read(69),
         link(1, 0, 1, MOST_FIXED, MOST_RATE),
-    ]);
-    calls.extend([
         SOLVE,
-        read(69),
         link(1, 0, 0, 0, 0),
         SOLVE,
-        read(69),
         link(1, 0, 1, 0, 0),
         SOLVE,
     ]);
     calls
 }
 
-/// No route keeps no plan; opening a line brings one back.
+/// With no route no output is too short; opening a line brings a plan back.
 fn no_route() -> Vec<Call> {
     vec![
         load(&pinned::q()),
-        SOLVE,
+        solve(4_096, 9),
         link(1, 0, 0, 1, 1),
-        SOLVE,
-        read(69),
+        solve(4_096, 13),
         link(2, 0, 0, 1, 1),
-        Call::Solve { cells: 8_192 },
-        read(0),
-        read(69),
+        solve(8_192, 69),
+        solve(4_096, 0),
         check(&[4, 1, 0, 1, 1, 2, 0, 3, 0]),
         link(2, 0, 1, 1, 1),
-        SOLVE,
-        read(69),
+        solve(4_096, 13),
     ]
 }
 
@@ -211,16 +201,15 @@ fn alone() -> Vec<Call> {
     let query = pinned::alone();
     vec![
         load(&query),
-        SOLVE,
-        read(3),
-        read(2),
+        solve(4_096, 3),
+        solve(4_096, 2),
         check(&[1, 1, 0]),
         check(&[1, 3, 0]),
         check(&[2, 1, 0, 2, 0]),
         check(&[2, 1, 0, 2, 1]),
         link(0, 0, 1, 0, 0),
         link(0, 1, 1, 0, 0),
-        read(3),
+        solve(4_096, 4),
     ]
 }
 
@@ -249,7 +238,7 @@ fn dearest() -> Vec<Call> {
     let (query, steps) = dearest_plan();
     let plan = step::plan_bytes(&steps);
     let one_more = step::plan_bytes(&[&steps[..], &[Step::Send { to: 1 }]].concat());
-    vec![load(&query), check(&plan), check(&plan[..68]), check(&one_more), SOLVE, read(69)]
+    vec![load(&query), check(&plan), check(&plan[..68]), check(&one_more), SOLVE]
 }
 
 /// A send of each size, solved and checked: of a relation, before and after a link that
@@ -257,9 +246,9 @@ fn dearest() -> Vec<Call> {
 fn parcels() -> Vec<Call> {
     let mut calls = Vec::new();
     for (size, _) in pinned::PARCELS {
-        calls.extend([load(&pinned::sent(size)), SOLVE, read(5), check(&[2, 1, 0, 2, 1])]);
-        calls.extend([link(0, 1, 1, 0, 1_000), SOLVE, check(&[2, 1, 0, 2, 1])]);
-        calls.extend([load(&pinned::joined_and_sent(size)), SOLVE, read(9)]);
+        calls.extend([load(&pinned::sent(size)), solve(4_096, 5), check(&[2, 1, 0, 2, 1])]);
+        calls.extend([link(0, 1, 1, 0, 1_000), solve(4_096, 5), check(&[2, 1, 0, 2, 1])]);
+        calls.extend([load(&pinned::joined_and_sent(size)), solve(4_096, 9)]);
         calls.push(check(&[4, 1, 1, 1, 0, 3, 0, 2, 1]));
     }
     calls

@@ -1,5 +1,5 @@
 //! The standing state and the calls on it. State is tested before input, and a
-//! refusal changes nothing.
+//! refusal leaves state and output as they were.
 
 use crate::check;
 use crate::decode;
@@ -7,15 +7,14 @@ use crate::limits::{MOST_FIXED, MOST_RATE, WORK_CELLS};
 use crate::method::Method;
 use crate::query::{Line, Query};
 use crate::refusal::Refusal;
-use crate::solve::{self, Plan};
+use crate::solve;
 use crate::step;
 use crate::units::{Charge, Rate};
 
-/// A query with its lines, or nothing, and a kept plan, or nothing.
+/// A query with its lines, or nothing. The method says how it solves; no call changes it.
 #[derive(Clone, Debug)]
 pub struct Planner {
     query: Option<Query>,
-    kept: Option<Plan>,
     method: Method,
 }
 
@@ -26,18 +25,11 @@ pub struct Loaded {
     pub subqueries: usize,
 }
 
-/// What an admitted solve answers; no cost means no route.
+/// What an admitted solve answers: of the plan that it wrote, or that there is none.
 #[derive(Clone, Copy, Debug, PartialEq, Eq)]
-pub struct Solved {
-    pub cost: Option<Charge>,
-    pub trials: u64,
-}
-
-/// What an admitted read answers.
-#[derive(Clone, Copy, Debug, PartialEq, Eq)]
-pub struct ReadOut {
-    pub length: usize,
-    pub cost: Charge,
+pub enum Solved {
+    Found { cost: Charge, length: usize, trials: u64 },
+    NoRoute { trials: u64 },
 }
 
 /// The arguments of a link call, as wide as they come.
@@ -52,22 +44,17 @@ pub struct Link {
 
 impl Planner {
     pub fn empty(method: Method) -> Planner {
-        Planner { query: None, kept: None, method }
+        Planner { query: None, method }
     }
 
     pub fn query(&self) -> Option<&Query> {
         self.query.as_ref()
     }
 
-    pub fn kept(&self) -> Option<&Plan> {
-        self.kept.as_ref()
-    }
-
     pub fn load(&mut self, file: &[u8]) -> Result<Loaded, Refusal> {
         let query = decode::decode(file)?;
         let (relations, subqueries) = (query.relations.len(), query.subqueries().len());
         self.query = Some(query);
-        self.kept = None;
         Ok(Loaded { relations, subqueries })
     }
 
@@ -82,28 +69,25 @@ impl Planner {
         }
         let line = Line { open: link.open == 1, fixed: Charge(link.fixed), rate: Rate(link.rate) };
         *query.line_mut(link.sender as usize, link.receiver as usize) = line;
-        self.kept = None;
         Ok(())
     }
 
-    /// The model needs no cells, so it leaves all of them as they are.
-    pub fn solve(&mut self, work: &mut [u64]) -> Result<Solved, Refusal> {
+    /// Writes the cheapest plan to the front of the output. Only a plan that was found can
+    /// be too long for it, so the output is judged last. The model needs no cells and
+    /// leaves all of them as they are.
+    pub fn solve(&self, work: &mut [u64], output: &mut [u8]) -> Result<Solved, Refusal> {
         let query = self.query.as_ref().ok_or(Refusal::NothingLoaded)?;
         if work.len() < WORK_CELLS {
             return Err(Refusal::FewCells);
         }
-        self.kept = solve::solve(query, self.method);
-        let cost = self.kept.as_ref().map(|plan| plan.cost);
-        Ok(Solved { cost, trials: solve::trials(query) })
-    }
-
-    pub fn read(&self, output: &mut [u8]) -> Result<ReadOut, Refusal> {
-        self.query.as_ref().ok_or(Refusal::NothingLoaded)?;
-        let kept = self.kept.as_ref().ok_or(Refusal::NoKeptPlan)?;
-        let plan = step::plan_bytes(&kept.steps);
+        let trials = solve::trials(query);
+        let Some(found) = solve::solve(query, self.method) else {
+            return Ok(Solved::NoRoute { trials });
+        };
+        let plan = step::plan_bytes(&found.steps);
         let front = output.get_mut(..plan.len()).ok_or(Refusal::ShortOutput)?;
         front.copy_from_slice(&plan);
-        Ok(ReadOut { length: plan.len(), cost: kept.cost })
+        Ok(Solved::Found { cost: found.cost, length: plan.len(), trials })
     }
 
     pub fn check(&self, plan: &[u8]) -> Result<Charge, Refusal> {

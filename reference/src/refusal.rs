@@ -16,7 +16,6 @@ pub enum Refusal {
     WrongEnd { count: usize },
     NothingLoaded,
     FewCells,
-    NoKeptPlan,
     ShortOutput,
 }
 
@@ -37,7 +36,6 @@ impl Refusal {
             Refusal::WrongEnd { .. } => 12,
             Refusal::NothingLoaded => 20,
             Refusal::FewCells => 21,
-            Refusal::NoKeptPlan => 22,
             Refusal::ShortOutput => 23,
         }
     }

@@ -1,22 +1,14 @@
-//! The scripts of the program `calls`: their records, and the lines that it prints.
+//! The records of a script of the program `calls`.
 
 use std::io::{self, Read};
 
-use crate::hex::hex;
-use crate::limits::WORK_CELLS;
-use crate::planner::{Link, Planner};
-use crate::refusal::Refusal;
-
-/// At most so many cells and output bytes are lent, whatever a record says.
-pub const MOST_CELLS_LENT: u32 = 8_192;
-pub const MOST_OUTPUT_LENT: u32 = 4_096;
+use crate::planner::Link;
 
 #[derive(Clone, Debug, PartialEq, Eq)]
 pub enum Call {
     Load { file: Vec<u8> },
     Link(Link),
-    Solve { cells: u32 },
-    Read { length: u32 },
+    Solve { cells: u32, output: u32 },
     Check { plan: Vec<u8> },
 }
 
@@ -29,9 +21,10 @@ impl Call {
                 let bytes = arguments.iter().flat_map(|argument| argument.to_le_bytes());
                 [2].into_iter().chain(bytes).collect()
             }
-            Call::Solve { cells } => [3].into_iter().chain(cells.to_le_bytes()).collect(),
-            Call::Read { length } => [4].into_iter().chain(length.to_le_bytes()).collect(),
             Call::Check { plan } => with_length(5, plan),
+            Call::Solve { cells, output } => {
+                [&[6][..], &cells.to_le_bytes(), &output.to_le_bytes()].concat()
+            }
         }
     }
 
@@ -47,85 +40,14 @@ impl Call {
                 fixed: u64::from_le_bytes(take(script).ok()?),
                 rate: u64::from_le_bytes(take(script).ok()?),
             }),
-            3 => Call::Solve { cells: u32::from_le_bytes(take(script).ok()?) },
-            4 => Call::Read { length: u32::from_le_bytes(take(script).ok()?) },
             5 => Call::Check { plan: take_with_length(script).ok()? },
+            6 => Call::Solve {
+                cells: u32::from_le_bytes(take(script).ok()?),
+                output: u32::from_le_bytes(take(script).ok()?),
+            },
             _ => return None,
         };
         Some(call)
-    }
-
-    /// The lines that the call prints, by the model.
-    pub fn run(&self, planner: &mut Planner) -> Vec<String> {
-        match self {
-            Call::Load { file } => vec![match planner.load(file) {
-                Ok(loaded) => format!("load {} {}", loaded.relations, loaded.subqueries),
-                Err(refusal) => refused(refusal),
-            }],
-            Call::Link(link) => vec![match planner.link(*link) {
-                Ok(()) => "link".to_string(),
-                Err(refusal) => refused(refusal),
-            }],
-            Call::Solve { cells } => run_solve(planner, *cells),
-            Call::Read { length } => run_read(planner, *length),
-            Call::Check { plan } => vec![match planner.check(plan) {
-                Ok(cost) => format!("check {}", cost.0),
-                Err(refusal) => refused(refusal),
-            }],
-        }
-    }
-}
-
-/// What stands in a lent work area before solve.
-pub fn lent_cell(place: usize) -> u64 {
-    (place as u64).wrapping_mul(2_654_435_761).wrapping_add(12_345)
-}
-
-/// What stands in a lent output before read.
-pub fn lent_byte(place: usize) -> u8 {
-    ((place * 37 + 11) % 256) as u8
-}
-
-fn run_solve(planner: &mut Planner, cells: u32) -> Vec<String> {
-    let before: Vec<u64> = (0..cells.min(MOST_CELLS_LENT) as usize).map(lent_cell).collect();
-    let mut work = before.clone();
-    let (answer, kept_from) = match planner.solve(&mut work) {
-        Ok(solved) => {
-            let answer = match solved.cost {
-                Some(cost) => format!("solve {} {}", cost.0, solved.trials),
-                None => format!("no-route {}", solved.trials),
-            };
-            (answer, WORK_CELLS)
-        }
-        Err(refusal) => (refused(refusal), 0),
-    };
-    let same = work[kept_from..] == before[kept_from..];
-    vec![answer, format!("cells {}", ok_or_changed(same))]
-}
-
-fn run_read(planner: &mut Planner, length: u32) -> Vec<String> {
-    let before: Vec<u8> = (0..length.min(MOST_OUTPUT_LENT) as usize).map(lent_byte).collect();
-    let mut output = before.clone();
-    match planner.read(&mut output) {
-        Ok(read) => vec![format!("read {} {} {}", read.length, read.cost.0, hex(&output))],
-        Err(refusal) => {
-            vec![refused(refusal), format!("output {}", ok_or_changed(output == before))]
-        }
-    }
-}
-
-fn refused(refusal: Refusal) -> String {
-    match refusal.place() {
-        Some(place) => format!("refused {} {place}", refusal.number()),
-        None => format!("refused {}", refusal.number()),
-    }
-}
-
-fn ok_or_changed(same: bool) -> &'static str {
-    if same {
-        "OK"
-    } else {
-        "CHANGED"
     }
 }
 

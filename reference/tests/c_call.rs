@@ -1,5 +1,5 @@
 //! The comparisons of the C call: they pass a call that is right and stop at one that
-//! writes outside its plan, keeps memory or meets another thread's call.
+//! writes where it may not, refuses too early, keeps memory or meets another thread's call.
 
 use std::hint::black_box;
 use std::sync::Mutex;
@@ -7,6 +7,9 @@ use std::thread;
 
 use reference::compare::c_call;
 use reference::compare::soak::{soak, Soak};
+
+/// What the call returns for 23.
+const SHORT_OUTPUT: u64 = 256 + 23;
 
 /// The soak reads the memory of the whole process.
 static ONE_TEST_AT_A_TIME: Mutex<()> = Mutex::new(());
@@ -50,6 +53,33 @@ unsafe extern "C" fn writes_behind(
     returned
 }
 
+/// The same, but it clears the front of an output that is too short.
+unsafe extern "C" fn clears_a_short_output(
+    query: *const u8,
+    query_length: usize,
+    output: *mut u8,
+    output_length: usize,
+) -> u64 {
+    let returned = model(query, query_length, output, output_length);
+    if returned == SHORT_OUTPUT && output_length > 0 {
+        output.write(0);
+    }
+    returned
+}
+
+/// The same, but it refuses an empty output though there is no route.
+unsafe extern "C" fn refuses_before_no_route(
+    query: *const u8,
+    query_length: usize,
+    output: *mut u8,
+    output_length: usize,
+) -> u64 {
+    match model(query, query_length, output, output_length) {
+        0 if output_length == 0 => SHORT_OUTPUT,
+        returned => returned,
+    }
+}
+
 #[test]
 fn the_c_call_passes_when_it_is_right() {
     let _alone = ONE_TEST_AT_A_TIME.lock().unwrap();
@@ -57,9 +87,11 @@ fn the_c_call_passes_when_it_is_right() {
 }
 
 #[test]
-fn the_c_call_fails_when_it_writes_behind_the_plan() {
+fn the_c_call_fails_when_it_is_wrong() {
     let _alone = ONE_TEST_AT_A_TIME.lock().unwrap();
     assert!(c_call::compare(writes_behind, 43, 300).is_err());
+    assert!(c_call::compare(clears_a_short_output, 43, 300).is_err());
+    assert!(c_call::compare(refuses_before_no_route, 43, 300).is_err());
 }
 
 /// What the soak says of 20,000 calls.

@@ -1,83 +1,64 @@
 //! The calls on a standing state, as lines of the program `calls`.
 
+use reference::answers;
 use reference::encode::encode;
-use reference::method::Method;
 use reference::pinned;
-use reference::pinned_calls;
-use reference::planner::Planner;
+use reference::pinned_calls::{self, SOLVE};
+use reference::pinned_solves;
 use reference::script::Call;
 
-fn run(calls: &[Call]) -> Vec<String> {
-    let mut planner = Planner::empty(Method::Rules);
-    calls.iter().flat_map(|call| call.run(&mut planner)).collect()
-}
-
 fn list(number: usize) -> Vec<String> {
-    run(&pinned_calls::lists()[number])
+    answers::lines(&pinned_calls::lists()[number])
 }
 
 /// Q's plan in a lent output of so many bytes.
-fn read_line(bytes: usize) -> String {
+fn solved(bytes: usize) -> String {
     let rest: String = (9..bytes).map(|place| format!("{:02x}", (place * 37 + 11) % 256)).collect();
-    format!("read 9 21 040100010102000300{rest}")
+    format!("solved 21 9 3 040100010102000300{rest}")
 }
 
 #[test]
 fn nothing_loaded_comes_first() {
-    let expected = [
-        "refused 20",
-        "cells OK",
-        "refused 20",
-        "cells OK",
-        "refused 20",
-        "output OK",
-        "refused 20",
-        "output OK",
-        "refused 20",
-        "refused 20",
-        "refused 20",
-        "refused 1",
-        "refused 20",
-        "cells OK",
-    ];
+    let solve = ["refused 20", "cells OK", "output OK"];
+    let others = ["refused 20", "refused 20", "refused 20", "refused 1"];
+    let expected = [&solve[..], &solve, &solve, &solve, &others, &solve].concat();
     assert_eq!(list(0), expected);
 }
 
 #[test]
-fn a_refusal_keeps_the_plan() {
-    let (read_9, read_10, read_4096) = (read_line(9), read_line(10), read_line(4_096));
+fn a_refusal_leaves_the_query() {
+    let (into_9, into_10, into_4096) = (solved(9), solved(10), solved(4_096));
     let expected = [
         "load 2 3",
-        "refused 22",
-        "output OK",
         "refused 21",
         "cells OK",
-        "solve 21 3",
+        "output OK",
+        &into_9,
         "cells OK",
-        &read_9,
-        "refused 23",
-        "output OK",
-        "refused 23",
-        "output OK",
-        &read_10,
         "refused 1",
         "refused 5",
+        &into_9,
+        "cells OK",
         "refused 21",
         "cells OK",
+        "output OK",
         "refused 6",
         "refused 3",
-        &read_9,
-        "link",
-        "refused 22",
-        "output OK",
-        "refused 22",
-        "output OK",
-        "solve 21 3",
+        &into_10,
         "cells OK",
-        &read_4096,
-        "load 2 3",
-        "refused 22",
+        "refused 23",
+        "cells OK",
         "output OK",
+        "link",
+        &into_9,
+        "cells OK",
+        &into_4096,
+        "cells OK",
+        &into_4096,
+        "cells OK",
+        "load 2 3",
+        &into_9,
+        "cells OK",
     ];
     assert_eq!(list(1), expected);
 }
@@ -88,20 +69,33 @@ fn links_take_wide_arguments() {
     assert_eq!(lines[0], "load 2 3");
     assert!(lines[1..17].iter().all(|line| line == "refused 6"));
     assert!(lines[17..28].iter().all(|line| line == "refused 3"));
-    assert_eq!(lines[28], "solve 21 3");
+    let costs = lines[28..].iter().filter(|line| line.starts_with("solved"));
+    let costs: Vec<&str> = costs.map(|line| line.split(' ').nth(1).unwrap()).collect();
+    assert_eq!(costs, ["21", "21", "26", "26", "19"]);
 }
 
 #[test]
-fn no_route_keeps_no_plan() {
-    let lines = list(3);
-    let answers: Vec<&str> =
-        lines.iter().map(String::as_str).filter(|line| !line.ends_with("OK")).collect();
-    assert_eq!(answers[..4], ["load 2 3", "solve 21 3", "link", "solve 26 3"]);
-    assert_eq!(
-        answers[5..11],
-        ["link", "no-route 3", "refused 22", "refused 22", "refused 10 2", "link"]
-    );
-    assert_eq!(answers[11], "solve 26 3");
+fn no_route_leaves_the_output() {
+    let expected = [
+        "load 2 3",
+        &solved(9),
+        "cells OK",
+        "link",
+        "solved 26 13 3 06010002020101020203000200",
+        "cells OK",
+        "link",
+        "no-route 3",
+        "cells OK",
+        "output OK",
+        "no-route 3",
+        "cells OK",
+        "output OK",
+        "refused 10 2",
+        "link",
+        "solved 26 13 3 06010002020101020203000200",
+        "cells OK",
+    ];
+    assert_eq!(list(3), expected);
 }
 
 #[test]
@@ -148,10 +142,10 @@ fn check_tells_the_place() {
 fn one_relation_at_one_site() {
     let expected = [
         "load 1 1",
-        "solve 0 0",
+        "solved 0 3 0 010100",
         "cells OK",
-        "read 3 0 010100",
         "refused 23",
+        "cells OK",
         "output OK",
         "check 0",
         "refused 8 0",
@@ -159,7 +153,8 @@ fn one_relation_at_one_site() {
         "refused 8 1",
         "refused 6",
         "refused 6",
-        "read 3 0 010100",
+        "solved 0 3 0 0101007a",
+        "cells OK",
     ];
     assert_eq!(list(5), expected);
 }
@@ -168,41 +163,59 @@ fn one_relation_at_one_site() {
 fn the_dearest_plan() {
     let lines = list(6);
     assert_eq!(lines[..4], ["load 9 45", "check 26125025000000", "refused 7", "refused 7"]);
+    assert!(lines[4].starts_with("solved 24000008000000 35 360 1101000101"), "{}", lines[4]);
 }
 
 #[test]
 fn parcels_are_started() {
     let answers: Vec<String> = list(7).into_iter().filter(|line| !line.ends_with("OK")).collect();
-    for (answers, (size, parcels)) in answers.chunks_exact(11).zip(pinned::PARCELS) {
+    for (answers, (size, parcels)) in answers.chunks_exact(9).zip(pinned::PARCELS) {
         let (sent, rate_only) = (3 + 5 * parcels, 1_000 * parcels);
         let both = 2 + 3 * size + sent;
         let expected = [
             "load 1 1".to_string(),
-            format!("solve {sent} 0"),
-            format!("read 5 {sent} 0201000201"),
+            format!("solved {sent} 5 0 0201000201"),
             format!("check {sent}"),
             "link".to_string(),
-            format!("solve {rate_only} 0"),
+            format!("solved {rate_only} 5 0 0201000201"),
             format!("check {rate_only}"),
             "load 2 3".to_string(),
-            format!("solve {both} 2"),
-            format!("read 9 {both} 040100010103000201"),
+            format!("solved {both} 9 2 040100010103000201"),
             format!("check {both}"),
         ];
         assert_eq!(answers, expected);
     }
-    assert_eq!(answers.len(), 11 * pinned::PARCELS.len());
+    assert_eq!(answers.len(), 9 * pinned::PARCELS.len());
+}
+
+/// The calls of a script up to where it ends, is cut or has an unknown record.
+fn calls_of(mut script: &[u8]) -> Vec<Call> {
+    std::iter::from_fn(|| Call::next(&mut script)).collect()
 }
 
 #[test]
 fn a_script_is_read_as_it_was_written() {
-    for calls in pinned_calls::lists() {
+    for calls in pinned_calls::lists().into_iter().chain(pinned_solves::lists()) {
         let script: Vec<u8> = calls.iter().flat_map(|call| call.record()).collect();
-        let mut rest = &script[..];
-        let read: Vec<Call> = std::iter::from_fn(|| Call::next(&mut rest)).collect();
-        assert_eq!(read, calls);
+        assert_eq!(calls_of(&script), calls);
     }
-    let load = Call::Load { file: encode(&pinned::q()) }.record();
-    assert_eq!(Call::next(&mut &load[..load.len() - 1]), None);
-    assert_eq!(Call::next(&mut &[6, 0, 0][..]), None);
+    assert_eq!(pinned_calls::solve(5_000, 9).record(), [6, 0x88, 0x13, 0, 0, 9, 0, 0, 0]);
+}
+
+#[test]
+fn a_cut_record_ends_the_run() {
+    for record in [Call::Load { file: encode(&pinned::q()) }.record(), SOLVE.record()] {
+        for length in 0..record.len() {
+            assert_eq!(calls_of(&record[..length]), []);
+        }
+    }
+}
+
+/// 3 and 4 are kinds as unknown as 0 and 255, whatever stands behind them.
+#[test]
+fn an_unknown_record_ends_the_run() {
+    for kind in [0, 3, 4, 255] {
+        let script = [SOLVE.record(), vec![kind, 0, 16, 0, 0], SOLVE.record()].concat();
+        assert_eq!(calls_of(&script), [SOLVE], "{kind}");
+    }
 }

@@ -1,11 +1,10 @@
 //! Planners whose calls go wrong in one way each; the comparison of call lists stops at
-//! every one of them.
+//! every one of them. What can go wrong within one solve is in faulty_solves.rs.
 
 use std::io;
 
 use reference::compare::calls;
 use reference::compare::program::{Answering, Feed};
-use reference::encode::encode;
 use reference::method::Method;
 use reference::planner::{Link, Planner};
 use reference::script::Call;
@@ -15,85 +14,80 @@ enum Fault {
     None,
     LinkChangesNothing,
     LinkOtherDirection,
-    LinkKeepsPlan,
     LinkCutsArguments,
     LoadAlwaysRefuses,
-    LoadKeepsPlan,
-    RefusedLoadDropsPlan,
-    RefusedSolveDropsPlan,
-    ReadDropsPlan,
-    CheckDropsPlan,
+    RefusedLoadDropsQuery,
+    SolveDropsQuery,
+    RefusedSolveDropsQuery,
+    CheckDropsQuery,
     CheckRejectsAll,
+    /// Once a plan is found, every solve answers with it.
     FirstPlanEverAfter,
-    ReadsBeforeStateIsTested,
+    /// Once a plan is found, every solve answers with it up to the next load.
+    PlanOutlivesLinks,
+    UnknownRecordPassedOver,
 }
 
-const FAULTS: [Fault; 13] = [
+const FAULTS: [Fault; 12] = [
     Fault::LinkChangesNothing,
     Fault::LinkOtherDirection,
-    Fault::LinkKeepsPlan,
     Fault::LinkCutsArguments,
     Fault::LoadAlwaysRefuses,
-    Fault::LoadKeepsPlan,
-    Fault::RefusedLoadDropsPlan,
-    Fault::RefusedSolveDropsPlan,
-    Fault::ReadDropsPlan,
-    Fault::CheckDropsPlan,
+    Fault::RefusedLoadDropsQuery,
+    Fault::SolveDropsQuery,
+    Fault::RefusedSolveDropsQuery,
+    Fault::CheckDropsQuery,
     Fault::CheckRejectsAll,
     Fault::FirstPlanEverAfter,
-    Fault::ReadsBeforeStateIsTested,
+    Fault::PlanOutlivesLinks,
+    Fault::UnknownRecordPassedOver,
 ];
 
 impl Answering for Fault {
     fn run(&self, mut script: &[u8], _: Feed) -> io::Result<String> {
         let mut faulty = Faulty::new(*self);
         let mut text = String::new();
-        while let Some(call) = Call::next(&mut script) {
-            for line in faulty.call(call) {
-                text.push_str(&line);
-                text.push('\n');
+        loop {
+            match (Call::next(&mut script), self) {
+                (Some(call), _) => {
+                    text.extend(faulty.call(call).into_iter().map(|line| line + "\n"))
+                }
+                (None, Fault::UnknownRecordPassedOver) if !script.is_empty() => {}
+                (None, _) => return Ok(text),
             }
         }
-        Ok(text)
     }
 }
 
-/// The model with one fault. Reads go to a planner of their own, so that a fault can
-/// keep or drop the plan apart from the query.
+/// The model with one fault.
 struct Faulty {
     fault: Fault,
     planner: Planner,
-    reader: Planner,
-    first_solve: Option<Vec<String>>,
+    /// The planner as it was when a plan was found, for the faults that answer by it again.
+    earlier: Option<Planner>,
 }
 
 impl Faulty {
     fn new(fault: Fault) -> Faulty {
-        let empty = Planner::empty(Method::Rules);
-        Faulty { fault, planner: empty.clone(), reader: empty, first_solve: None }
+        Faulty { fault, planner: Planner::empty(Method::Rules), earlier: None }
     }
 
     fn call(&mut self, call: Call) -> Vec<String> {
         match call {
-            Call::Load { ref file } => self.load(file, &call),
+            Call::Load { .. } => self.load(&call),
             Call::Link(link) => self.link(link),
             Call::Solve { .. } => self.solve(&call),
-            Call::Read { .. } => self.read(&call),
             Call::Check { ref plan } => self.check(plan, &call),
         }
     }
 
-    fn load(&mut self, file: &[u8], call: &Call) -> Vec<String> {
+    fn load(&mut self, call: &Call) -> Vec<String> {
         let lines = call.run(&mut self.planner);
-        let refused = lines[0].starts_with("refused");
         match self.fault {
             Fault::LoadAlwaysRefuses => return vec!["refused 1".to_string()],
-            Fault::LoadKeepsPlan if self.reader.kept().is_some() => {}
-            Fault::RefusedLoadDropsPlan if refused => self.drop_plan(),
-            _ if refused => {}
-            _ => {
-                let _ = self.reader.load(file);
-            }
+            Fault::RefusedLoadDropsQuery if lines[0].starts_with("refused") => self.drop_query(),
+            Fault::PlanOutlivesLinks if lines[0].starts_with("load") => self.earlier = None,
+            _ => {}
         }
         lines
     }
@@ -114,9 +108,6 @@ impl Faulty {
             _ => link,
         };
         let lines = Call::Link(done).run(&mut self.planner);
-        if !matches!(self.fault, Fault::LinkKeepsPlan) {
-            self.reader = self.planner.clone();
-        }
         if matches!(self.fault, Fault::LinkChangesNothing) {
             self.planner = before;
         }
@@ -124,25 +115,15 @@ impl Faulty {
     }
 
     fn solve(&mut self, call: &Call) -> Vec<String> {
-        let lines = call.run(&mut self.planner);
+        let mut by = self.earlier.as_ref().unwrap_or(&self.planner).clone();
+        let lines = call.run(&mut by);
+        let (found, refused) = (lines[0].starts_with("solved"), lines[0].starts_with("refused"));
         match self.fault {
-            Fault::RefusedSolveDropsPlan if lines[0] == "refused 21" => self.drop_plan(),
-            Fault::FirstPlanEverAfter if lines[0].starts_with("solve") => {
-                return self.first_solve.get_or_insert(lines).clone();
+            Fault::FirstPlanEverAfter | Fault::PlanOutlivesLinks if found => {
+                self.earlier = Some(by);
             }
-            _ if lines[0].starts_with("refused") => {}
-            _ => self.reader = self.planner.clone(),
-        }
-        lines
-    }
-
-    fn read(&mut self, call: &Call) -> Vec<String> {
-        let mut lines = call.run(&mut self.reader);
-        match self.fault {
-            Fault::ReadDropsPlan if lines[0].starts_with("read") => self.drop_plan(),
-            Fault::ReadsBeforeStateIsTested if lines[0] == "refused 20" => {
-                lines[0] = "refused 22".to_string()
-            }
+            Fault::SolveDropsQuery if !refused => self.drop_query(),
+            Fault::RefusedSolveDropsQuery if refused => self.drop_query(),
             _ => {}
         }
         lines
@@ -151,7 +132,7 @@ impl Faulty {
     fn check(&mut self, plan: &[u8], call: &Call) -> Vec<String> {
         let lines = call.run(&mut self.planner);
         match self.fault {
-            Fault::CheckDropsPlan => self.drop_plan(),
+            Fault::CheckDropsQuery => self.drop_query(),
             Fault::CheckRejectsAll if lines[0].starts_with("check") => {
                 return vec![format!("refused 12 {}", plan[0])];
             }
@@ -160,11 +141,8 @@ impl Faulty {
         lines
     }
 
-    fn drop_plan(&mut self) {
-        if let Some(query) = self.reader.query() {
-            let file = encode(query);
-            let _ = self.reader.load(&file);
-        }
+    fn drop_query(&mut self) {
+        self.planner = Planner::empty(Method::Rules);
     }
 }
 

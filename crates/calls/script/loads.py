@@ -1,6 +1,6 @@
 """Files that load refuses, by the fault that it meets first; and files that it takes, with every field kept in its place."""
 from script.queries import LONGEST, Q, amount, file, q, q_with
-from script.records import check, load, solve, steps
+from script.records import check, load, solve, solved, steps
 
 
 def drawn(*joins):
@@ -43,7 +43,7 @@ def refused():
     yield load(q()), ["load 2 3"]
     for bytes_given, number in REFUSED:
         yield load(bytes_given), [f"refused {number}"]
-    yield solve(4096), ["solve 21 3", "cells OK"]
+    yield solve(4096, 9), solved(21, 3, steps("l0 l1 s0 j0"), 9)
 
 
 def in_place():

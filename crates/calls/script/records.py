@@ -1,4 +1,4 @@
-"""The records of a script, and the line that a read prints. All numbers are little-endian."""
+"""The records of a script, and the lines that a solve prints. All numbers are little-endian."""
 import struct
 
 KINDS = {"l": 1, "s": 2, "j": 3}
@@ -12,16 +12,12 @@ def link(*arguments):
     return struct.pack("<B5Q", 2, *arguments)
 
 
-def solve(cells):
-    return struct.pack("<BI", 3, cells)
-
-
-def read(length):
-    return struct.pack("<BI", 4, length)
-
-
 def check(plan):
     return struct.pack("<BH", 5, len(plan)) + plan
+
+
+def solve(cells, output):
+    return struct.pack("<BII", 6, cells, output)
 
 
 def steps(text):
@@ -30,7 +26,16 @@ def steps(text):
     return bytes([len(words)]) + b"".join(bytes([KINDS[word[0]], int(word[1:])]) for word in words)
 
 
-def wrote(plan, cost, lent):
-    """What a read prints: the plan at the front of the output, and the rest as it was filled."""
-    rest = bytes((i * 37 + 11) % 256 for i in range(len(plan), lent))
-    return f"read {len(plan)} {cost} {(plan + rest).hex()}"
+def solved(cost, trials, plan, output):
+    """A plan is found: it stands at the front of the output, and the rest is as it was filled."""
+    rest = bytes((i * 37 + 11) % 256 for i in range(len(plan), output))
+    return [f"solved {cost} {len(plan)} {trials} {(plan + rest).hex()}", "cells OK"]
+
+
+def no_route(trials):
+    return [f"no-route {trials}", "cells OK", "output OK"]
+
+
+def refused(number):
+    """A solve that is refused."""
+    return [f"refused {number}", "cells OK", "output OK"]

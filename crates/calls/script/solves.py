@@ -1,36 +1,31 @@
-"""Queries that are solved, their plans read and checked. Each case states what load and solve print, and the plan."""
+"""Queries that are solved, and their plans checked. Each case states what load prints, the cost, the trials and the plan."""
 from script.queries import LONGEST, RELATIONS, SITES, alone, chain, closed, every, file, q, star
-from script.records import check, load, read, solve, steps, wrote
+from script.records import check, load, no_route, solve, solved, steps
 
 FREE = (1, 0, 0)
 
 
-def found(query, loaded, solved, plan):
-    """The read lends a byte more than the plan has."""
-    cost, written = solved.split()[1], steps(plan)
+def found(query, loaded, cost, trials, plan):
+    """The output has a byte more than the plan."""
+    written = steps(plan)
+    output = len(written) + 1
     yield load(query), [loaded]
-    yield solve(4096), [solved, "cells OK"]
-    yield read(len(written) + 1), [wrote(written, cost, len(written) + 1)]
+    yield solve(4096, output), solved(cost, trials, written, output)
     yield check(written), [f"check {cost}"]
-
-
-def no_route(query, loaded, solved):
-    yield load(query), [loaded]
-    yield solve(4096), [solved, "cells OK"]
-    yield read(69), ["refused 22", "output OK"]
 
 
 def pinned():
     """Rows 1 to 9 of rule 10.3."""
-    yield from found(q(), "load 2 3", "solve 21 3", "l0 l1 s0 j0")
-    yield from found(q(target=2), "load 2 3", "solve 23 3", "l0 l1 s0 j0 s2")
-    yield from found(q(relations=[(0, 1), (1, 0)]), "load 2 3", "solve 11 3", "l0 l1 s0 j0")
-    yield from found(q(sites=[(0, 2, 1)] + SITES[1:]), "load 2 3", "solve 24 3", "l0 s1 l1 j0 s0")
-    yield from found(q(line=closed((1, 0))), "load 2 3", "solve 26 3", "l0 s2 l1 s2 j0 s0")
-    yield from no_route(q(line=closed((1, 0), (2, 0))), "load 2 3", "no-route 3")
-    yield from found(q(line=every(*FREE)), "load 2 3", "solve 19 3", "l0 l1 s0 j0")
-    yield from found(alone(0), "load 1 1", "solve 0 0", "l0")
-    yield from found(alone(1), "load 1 1", "solve 3 0", "l0 s1")
+    yield from found(q(), "load 2 3", 21, 3, "l0 l1 s0 j0")
+    yield from found(q(target=2), "load 2 3", 23, 3, "l0 l1 s0 j0 s2")
+    yield from found(q(relations=[(0, 1), (1, 0)]), "load 2 3", 11, 3, "l0 l1 s0 j0")
+    yield from found(q(sites=[(0, 2, 1)] + SITES[1:]), "load 2 3", 24, 3, "l0 s1 l1 j0 s0")
+    yield from found(q(line=closed((1, 0))), "load 2 3", 26, 3, "l0 s2 l1 s2 j0 s0")
+    yield load(q(line=closed((1, 0), (2, 0)))), ["load 2 3"]
+    yield solve(4096, 69), no_route(3)
+    yield from found(q(line=every(*FREE)), "load 2 3", 19, 3, "l0 l1 s0 j0")
+    yield from found(alone(0), "load 1 1", 0, 0, "l0")
+    yield from found(alone(1), "load 1 1", 3, 0, "l0 s1")
 
 
 # Sizes at and beside full parcels, and at the limit, with the parcels that they start.
@@ -43,57 +38,57 @@ def parcels():
         sent = 3 + 5 * started
         both = 2 + (size + size + size) + sent
         relations, lines = [(0, 0)] * 2, every(1, 3, 5)
-        yield from found(file(SITES[:2], relations[:1], [], lambda subquery: size, lines, 1), "load 1 1", f"solve {sent} 0", "l0 s1")
+        yield from found(file(SITES[:2], relations[:1], [], lambda subquery: size, lines, 1), "load 1 1", sent, 0, "l0 s1")
         sites = [SITES[0], (0, 2, 1)]
-        yield from found(file(sites, relations, chain(2), lambda subquery: size, lines, 1), "load 2 3", f"solve {both} 2", "l0 l1 j0 s1")
+        yield from found(file(sites, relations, chain(2), lambda subquery: size, lines, 1), "load 2 3", both, 2, "l0 l1 j0 s1")
     # a parcel each, so that every site is as good; by the byte site 2 would be cheaper
     query = file(SITES, RELATIONS, chain(2), {1: 7, 2: 7, 3: 8}.get, every(1, 1, 1), 2)
-    yield from found(query, "load 2 3", "solve 28 3", "l0 l1 s0 j0 s2")
+    yield from found(query, "load 2 3", 28, 3, "l0 l1 s0 j0 s2")
     # 0 bytes are sent for the fixed amount alone
     query = file(SITES, RELATIONS, chain(2), {1: 10, 2: 0, 3: 3}.get, every(1, 1, 1), 0)
-    yield from found(query, "load 2 3", "solve 16 3", "l0 l1 s0 j0")
+    yield from found(query, "load 2 3", 16, 3, "l0 l1 s0 j0")
 
 
 def larger():
     # the chain of five of examples/chain-of-five.txt, a parcel for each of the paper's bytes
     five = {1: 100, 2: 400, 3: 80, 4: 700, 6: 311, 7: 62, 8: 1100, 12: 481, 14: 214, 15: 43, 16: 1600, 24: 733, 28: 321, 30: 143, 31: 29}
     query = file([FREE] * 6, [(r, 0) for r in range(5)], chain(5), lambda subquery: 8 * five[subquery], every(1, 10, 1), 5)
-    yield from found(query, "load 5 15", "solve 364 120", "l0 s1 l1 j0 s2 l2 j1 s3 l3 j2 s4 l4 j3 s5")
+    yield from found(query, "load 5 15", 364, 120, "l0 s1 l1 j0 s2 l2 j1 s3 l3 j2 s4 l4 j3 s5")
     # a plan whose last join has two joined operands
     four = {1: 100, 2: 100, 4: 100, 8: 100, 3: 1, 12: 1, 6: 100, 7: 1000, 14: 1000, 15: 1000}
     query = file([FREE] * 5, [(r, 0) for r in range(4)], chain(4), four.get, every(1, 0, 1), 4)
-    yield from found(query, "load 4 10", "solve 28 50", "l0 l1 s0 j0 s4 l2 l3 s2 j2 s4 j1")
+    yield from found(query, "load 4 10", 28, 50, "l0 l1 s0 j0 s4 l2 l3 s2 j2 s4 j1")
     # ties: the lowest site, and the lowest join
     query = file([FREE] * 2, [(0, 0)] * 2, chain(2), lambda subquery: 1, every(*FREE), 1)
-    yield from found(query, "load 2 3", "solve 0 2", "l0 l1 j0 s1")
+    yield from found(query, "load 2 3", 0, 2, "l0 l1 j0 s1")
     query = file([FREE], [(0, 0)] * 3, chain(3), lambda subquery: 1, None, 0)
-    yield from found(query, "load 3 6", "solve 0 4", "l0 l1 l2 j1 j0")
+    yield from found(query, "load 3 6", 0, 4, "l0 l1 l2 j1 j0")
     # the longest file
-    yield from found(LONGEST, "load 9 264", "solve 1760025210747 8192", "l8 l6 l4 s0 l2 s0 l0 l1 s0 j0 j1 s3 l3 j2 s0 j3 l5 s0 j4 s6 j5 s0 l7 s0 j6 j7 s7")
+    yield from found(LONGEST, "load 9 264", 1_760_025_210_747, 8192, "l8 l6 l4 s0 l2 s0 l0 l1 s0 j0 j1 s3 l3 j2 s0 j3 l5 s0 j4 s6 j5 s0 l7 s0 j6 j7 s7")
 
 
 CHAINS = [
-    ("load 1 1", "solve 2 0", "l0 s1"),
-    ("load 2 3", "solve 2 2", "l0 s1 l1 j0"),
-    ("load 3 6", "solve 4 8", "l0 l1 s0 l2 j1 j0 s1"),
-    ("load 4 10", "solve 4 20", "l0 s1 l1 l2 s1 l3 j2 j1 j0"),
-    ("load 5 15", "solve 6 40", "l0 l1 s0 l2 l3 s0 l4 j3 j2 j1 j0 s1"),
-    ("load 6 21", "solve 6 70", "l0 s1 l1 l2 s1 l3 l4 s1 l5 j4 j3 j2 j1 j0"),
-    ("load 7 28", "solve 8 112", "l0 l1 s0 l2 l3 s0 l4 l5 s0 l6 j5 j4 j3 j2 j1 j0 s1"),
-    ("load 8 36", "solve 8 168", "l0 s1 l1 l2 s1 l3 l4 s1 l5 l6 s1 l7 j6 j5 j4 j3 j2 j1 j0"),
-    ("load 9 45", "solve 10 240", "l0 l1 s0 l2 l3 s0 l4 l5 s0 l6 l7 s0 l8 j7 j6 j5 j4 j3 j2 j1 j0 s1"),
+    ("load 1 1", 2, 0, "l0 s1"),
+    ("load 2 3", 2, 2, "l0 s1 l1 j0"),
+    ("load 3 6", 4, 8, "l0 l1 s0 l2 j1 j0 s1"),
+    ("load 4 10", 4, 20, "l0 s1 l1 l2 s1 l3 j2 j1 j0"),
+    ("load 5 15", 6, 40, "l0 l1 s0 l2 l3 s0 l4 j3 j2 j1 j0 s1"),
+    ("load 6 21", 6, 70, "l0 s1 l1 l2 s1 l3 l4 s1 l5 j4 j3 j2 j1 j0"),
+    ("load 7 28", 8, 112, "l0 l1 s0 l2 l3 s0 l4 l5 s0 l6 j5 j4 j3 j2 j1 j0 s1"),
+    ("load 8 36", 8, 168, "l0 s1 l1 l2 s1 l3 l4 s1 l5 l6 s1 l7 j6 j5 j4 j3 j2 j1 j0"),
+    ("load 9 45", 10, 240, "l0 l1 s0 l2 l3 s0 l4 l5 s0 l6 l7 s0 l8 j7 j6 j5 j4 j3 j2 j1 j0 s1"),
 ]
 
 STARS = [
-    ("load 1 1", "solve 2 0", "l0 s1"),
-    ("load 2 3", "solve 2 2", "l0 s1 l1 j0"),
-    ("load 3 6", "solve 2 8", "l0 l2 j1 s1 l1 j0"),
-    ("load 4 11", "solve 2 24", "l0 l2 j1 s1 l3 j2 l1 j0"),
-    ("load 5 20", "solve 2 64", "l0 l4 j3 l2 j1 s1 l3 j2 l1 j0"),
-    ("load 6 37", "solve 2 160", "l0 l4 j3 l2 j1 s1 l5 j4 l3 j2 l1 j0"),
-    ("load 7 70", "solve 2 384", "l0 l6 j5 l4 j3 l2 j1 s1 l5 j4 l3 j2 l1 j0"),
-    ("load 8 135", "solve 2 896", "l0 l6 j5 l4 j3 l2 j1 s1 l7 j6 l5 j4 l3 j2 l1 j0"),
-    ("load 9 264", "solve 2 2048", "l0 l8 j7 l6 j5 l4 j3 l2 j1 s1 l7 j6 l5 j4 l3 j2 l1 j0"),
+    ("load 1 1", 2, 0, "l0 s1"),
+    ("load 2 3", 2, 2, "l0 s1 l1 j0"),
+    ("load 3 6", 2, 8, "l0 l2 j1 s1 l1 j0"),
+    ("load 4 11", 2, 24, "l0 l2 j1 s1 l3 j2 l1 j0"),
+    ("load 5 20", 2, 64, "l0 l4 j3 l2 j1 s1 l3 j2 l1 j0"),
+    ("load 6 37", 2, 160, "l0 l4 j3 l2 j1 s1 l5 j4 l3 j2 l1 j0"),
+    ("load 7 70", 2, 384, "l0 l6 j5 l4 j3 l2 j1 s1 l5 j4 l3 j2 l1 j0"),
+    ("load 8 135", 2, 896, "l0 l6 j5 l4 j3 l2 j1 s1 l7 j6 l5 j4 l3 j2 l1 j0"),
+    ("load 9 264", 2, 2048, "l0 l8 j7 l6 j5 l4 j3 l2 j1 s1 l7 j6 l5 j4 l3 j2 l1 j0"),
 ]
 
 

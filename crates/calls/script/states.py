@@ -1,6 +1,6 @@
 """The state from call to call: what is refused by it, what a call leaves, and the limits of what is lent."""
 from script.queries import q
-from script.records import check, link, load, read, solve, steps, wrote
+from script.records import check, link, load, no_route, refused, solve, solved, steps
 
 WIDEST = 2**64 - 1
 
@@ -12,23 +12,23 @@ DETOUR = steps("l0 s2 l1 s2 j0 s0")
 def script():
     # 20: nothing is loaded, whatever else is wrong too
     yield link(0, 0, 2, WIDEST, WIDEST), ["refused 20"]
-    yield solve(0), ["refused 20", "cells OK"]
-    yield solve(4096), ["refused 20", "cells OK"]
-    yield read(0), ["refused 20", "output OK"]
+    yield solve(0, 0), refused(20)
+    yield solve(0, 9), refused(20)
+    yield solve(4096, 0), refused(20)
+    yield solve(4096, 9), refused(20)
     yield check(b""), ["refused 20"]
     yield load(q() + b"\0"), ["refused 5"]
-    yield solve(4096), ["refused 20", "cells OK"]
-    # Q: 22, 21, the plan, 23
+    yield solve(4096, 9), refused(20)
+    # Q; a refused call and a check leave the query, and the solve after them answers as the one before
     yield load(q()), ["load 2 3"]
-    yield read(9), ["refused 22", "output OK"]
-    yield solve(4095), ["refused 21", "cells OK"]
-    yield solve(4096), ["solve 21 3", "cells OK"]
-    yield read(8), ["refused 23", "output OK"]
-    yield read(9), [wrote(BEST, 21, 9)]
-    yield read(69), [wrote(BEST, 21, 69)]
-    # a refused call leaves the query and the kept plan
+    yield solve(4096, 9), solved(21, 3, BEST, 9)
+    yield check(BEST), ["check 21"]
+    yield solve(4096, 69), solved(21, 3, BEST, 69)
     yield load(q() + b"\0"), ["refused 5"]
-    yield solve(0), ["refused 21", "cells OK"]
+    yield solve(4096, 9), solved(21, 3, BEST, 9)
+    yield solve(4095, 9), refused(21)
+    yield solve(4096, 8), refused(23)
+    yield solve(4096, 9), solved(21, 3, BEST, 9)
     yield link(1, 1, 2, 0, 0), ["refused 6"]
     yield link(0, 3, 1, 0, 0), ["refused 6"]
     yield link(WIDEST, 0, 1, 0, 0), ["refused 6"]
@@ -36,22 +36,21 @@ def script():
     yield link(1, 0, 2, 0, 0), ["refused 3"]
     yield link(1, 0, 0, 1_000_001, 0), ["refused 3"]
     yield link(1, 0, 0, 0, 2**32), ["refused 3"]
-    yield read(10), [wrote(BEST, 21, 10)]
-    # an admitted link drops the plan; more than can be lent is lent as all
+    yield solve(4096, 10), solved(21, 3, BEST, 10)
+    # solve and check follow the lines in force; more than can be lent is lent as all
     yield link(1, 0, 0, 1, 1), ["link"]
-    yield read(69), ["refused 22", "output OK"]
-    yield solve(8192), ["solve 26 3", "cells OK"]
-    yield read(2**32 - 1), [wrote(DETOUR, 26, 4096)]
+    yield solve(4096, 9), refused(23)
+    yield solve(8192, 2**32 - 1), solved(26, 3, DETOUR, 4096)
     yield check(BEST), ["refused 10 2"]
-    # no route keeps no plan
+    yield check(DETOUR), ["check 26"]
     yield link(2, 0, 0, 0, 0), ["link"]
-    yield solve(5000), ["no-route 3", "cells OK"]
-    yield read(69), ["refused 22", "output OK"]
+    yield solve(5000, 69), no_route(3)
+    yield check(DETOUR), ["refused 10 5"]
     yield link(1, 0, 1, 1, 1), ["link"]
-    yield solve(2**32 - 1), ["solve 21 3", "cells OK"]
-    # check follows the lines in force, and leaves the kept plan; a load drops it
+    yield solve(2**32 - 1, 9), solved(21, 3, BEST, 9)
     yield check(BEST), ["check 21"]
     yield check(DETOUR), ["refused 10 5"]
-    yield read(9), [wrote(BEST, 21, 9)]
+    # a load replaces the query with its lines
     yield load(q()), ["load 2 3"]
-    yield read(9), ["refused 22", "output OK"]
+    yield check(DETOUR), ["check 26"]
+    yield solve(4096, 9), solved(21, 3, BEST, 9)

@@ -4,11 +4,12 @@
 use std::fmt;
 use std::ptr;
 
+use crate::answers;
 use crate::c_call;
 use crate::compare::cases;
 use crate::compare::tally::Tally;
 use crate::hex::hex;
-use crate::script;
+use crate::limits::LONGEST_PLAN;
 
 pub const DEFAULT_SEED: u64 = 1;
 pub const DEFAULT_COUNT: u64 = 20_000;
@@ -16,8 +17,6 @@ pub const DEFAULT_COUNT: u64 = 20_000;
 const SWEEP_EVERY: u64 = 2_000;
 /// Bytes before and behind the lent output.
 const GUARD: usize = 64;
-/// The longest plan's bytes.
-const LONGEST_PLAN: usize = 69;
 
 /// The C signature of the call.
 pub type CCall = unsafe extern "C" fn(*const u8, usize, *mut u8, usize) -> u64;
@@ -121,7 +120,7 @@ fn compare_one(
 /// Lends an output of the length inside patterned memory and keeps all that is there
 /// afterwards.
 fn outcome(length: usize, call: impl FnOnce(&mut [u8]) -> u64) -> Outcome {
-    let mut memory: Vec<u8> = (0..GUARD + length + GUARD).map(script::lent_byte).collect();
+    let mut memory: Vec<u8> = (0..GUARD + length + GUARD).map(answers::lent_byte).collect();
     let returned = call(&mut memory[GUARD..GUARD + length]);
     Outcome { returned, memory }
 }

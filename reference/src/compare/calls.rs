@@ -8,7 +8,8 @@ use crate::compare::program::{Answering, Feed};
 use crate::compare::tally::Tally;
 use crate::generate::calls;
 use crate::method::Method;
-use crate::pinned_calls;
+use crate::pinned_calls::{self, SOLVE};
+use crate::pinned_solves;
 use crate::planner::Planner;
 use crate::random::Random;
 use crate::script::Call;
@@ -19,6 +20,8 @@ pub const DEFAULT_LISTS: u64 = 200;
 const CALLS_IN_A_LIST: usize = 400;
 /// Calls in the first list, whose script is megabytes long.
 const CALLS_IN_THE_FIRST: usize = 10_000;
+/// Kinds that no record has; one of them ends the run.
+const UNKNOWN: [u8; 4] = [0, 3, 4, 255];
 
 /// The fixed lists, then so many random ones.
 pub fn compare(
@@ -27,8 +30,8 @@ pub fn compare(
     lists: u64,
 ) -> io::Result<Result<Tally, Box<Mismatch>>> {
     let mut tally = Tally::default();
-    for calls in pinned_calls::lists() {
-        if let Err(mismatch) = compare_script(program, &calls, &[], Feed::Whole, &mut tally)? {
+    for (calls, tail) in fixed() {
+        if let Err(mismatch) = compare_script(program, &calls, &tail, Feed::Whole, &mut tally)? {
             return Ok(Err(Box::new(shortest(program, *mismatch)?)));
         }
     }
@@ -77,18 +80,29 @@ fn compare_script(
     Ok(Ok(()))
 }
 
+/// Lists of calls and what stands behind them: nothing, or an unknown record.
+fn fixed() -> impl Iterator<Item = (Vec<Call>, Vec<u8>)> {
+    let lists = pinned_calls::lists().into_iter().chain(pinned_solves::lists());
+    let alone = lists.map(|calls| (calls, Vec::new()));
+    alone.chain(UNKNOWN.map(|kind| (vec![SOLVE], unknown_then_solve(kind))))
+}
+
 /// What may stand behind the last record: nothing, a cut record, or an unknown one
 /// with good records behind it.
 fn tail(random: &mut Random) -> Vec<u8> {
-    let solve = Call::Solve { cells: 4_096 }.record();
+    let solve = SOLVE.record();
     match random.below(6) {
-        0 => vec![random.pick(&[1, 2, 3, 4, 5])],
+        0 => vec![random.pick(&[1, 2, 5, 6])],
         1 => vec![1, 200, 0, 3, 3, 3],
         2 => vec![2; 40],
-        3 => solve[..4].to_vec(),
-        4 => [vec![random.pick(&[0, 6, 255])], solve].concat(),
+        3 => solve[..random.between(2, 8) as usize].to_vec(),
+        4 => unknown_then_solve(random.pick(&UNKNOWN)),
         _ => Vec::new(),
     }
+}
+
+fn unknown_then_solve(kind: u8) -> Vec<u8> {
+    [vec![kind], SOLVE.record()].concat()
 }
 
 /// Takes calls out, many at a time and then one by one, as long as a mismatch stays.
@@ -116,7 +130,6 @@ fn kind(call: &Call, answer: &str) -> String {
         Call::Load { .. } => "load",
         Call::Link(_) => "link",
         Call::Solve { .. } => "solve",
-        Call::Read { .. } => "read",
         Call::Check { .. } => "check",
     };
     let mut words = answer.split(' ');

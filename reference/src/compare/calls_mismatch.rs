@@ -45,8 +45,9 @@ fn describe(call: &Call) -> String {
             "link {} to {}, open {}, fixed {}, rate {}",
             link.sender, link.receiver, link.open, link.fixed, link.rate
         ),
-        Call::Solve { cells } => format!("solve with {cells} cells"),
-        Call::Read { length } => format!("read into {length} bytes"),
+        Call::Solve { cells, output } => {
+            format!("solve with {cells} cells into {output} bytes")
+        }
         Call::Check { plan } => format!("check {}", hex(plan)),
     }
 }

@@ -1,19 +1,19 @@
-//! Random lists of calls. The model runs along, so that plans to check and short
-//! outputs fit the standing state.
+//! Random lists of calls. The model runs along, so that plans to check and lengths of
+//! outputs fit the query in force.
 
 use crate::encode;
 use crate::generate::files;
 use crate::generate::plans;
 use crate::generate::queries::{self, Room};
-use crate::limits::{MOST_FIXED, MOST_RATE, WORK_CELLS};
-use crate::method::Method;
-use crate::planner::{Link, Planner};
+use crate::generate::standing::Standing;
+use crate::limits::{LONGEST_PLAN, MOST_FIXED, MOST_RATE, WORK_CELLS};
+use crate::planner::Link;
 use crate::random::Random;
 use crate::script::Call;
 
 /// A list of calls from an empty planner.
 pub fn calls(random: &mut Random, length: usize) -> Vec<Call> {
-    let mut planner = Planner::empty(Method::Rules);
+    let mut standing = Standing::empty();
     let room = match random.below(3) {
         0 => Room::small(),
         1 => Room { relations: 1..=6, sites: 1..=5 },
@@ -21,29 +21,24 @@ pub fn calls(random: &mut Random, length: usize) -> Vec<Call> {
     };
     let mut calls = Vec::new();
     while calls.len() < length {
-        let call = call(random, &planner, &room);
-        call.run(&mut planner);
+        let call = call(random, &standing, &room);
+        standing.add(&call);
         calls.push(call);
     }
     calls
 }
 
-fn call(random: &mut Random, planner: &Planner, room: &Room) -> Call {
-    // Without a kept plan a read is refused, so solve comes more often.
-    let (solves, reads) = if planner.kept().is_some() { (12, 26) } else { (40, 7) };
+fn call(random: &mut Random, standing: &Standing, room: &Room) -> Call {
     match random.below(100) {
         0..=3 => Call::Load { file: encode::encode(&queries::query(random, room)) },
         4..=9 => {
             let file = files::file(random, room);
             Call::Load { file: long_at_times(random, file) }
         }
-        10..=24 => Call::Link(link(random, planner)),
-        chance if chance < 25 + solves => Call::Solve { cells: cells(random) },
-        chance if chance < 25 + solves + reads => {
-            Call::Read { length: output_length(random, planner) }
-        }
+        10..=24 => Call::Link(link(random, standing)),
+        25..=59 => Call::Solve { cells: cells(random), output: output_length(random, standing) },
         _ => {
-            let plan = plan(random, planner);
+            let plan = plan(random, standing);
             Call::Check { plan: long_at_times(random, plan) }
         }
     }
@@ -57,17 +52,18 @@ fn long_at_times(random: &mut Random, mut bytes: Vec<u8>) -> Vec<u8> {
     bytes
 }
 
-fn plan(random: &mut Random, planner: &Planner) -> Vec<u8> {
-    match planner.query() {
-        Some(query) => plans::to_check(random, query, planner.kept().map(|plan| &plan.steps[..])),
+fn plan(random: &mut Random, standing: &Standing) -> Vec<u8> {
+    let cheapest = standing.cheapest().map(|plan| &plan.steps[..]);
+    match standing.query() {
+        Some(query) => plans::to_check(random, query, cheapest),
         None => vec![1, 1, 0],
     }
 }
 
 /// Mostly a line of the query; now and then an argument that a narrower number
 /// would take for a good one.
-fn link(random: &mut Random, planner: &Planner) -> Link {
-    let sites = planner.query().map_or(3, |query| query.sites.len()) as u64;
+fn link(random: &mut Random, standing: &Standing) -> Link {
+    let sites = standing.query().map_or(3, |query| query.sites.len()) as u64;
     let mut link = Link {
         sender: random.between(0, sites - 1),
         receiver: random.between(0, sites - 1),
@@ -128,10 +124,15 @@ fn cells(random: &mut Random) -> u32 {
     ])
 }
 
-fn output_length(random: &mut Random, planner: &Planner) -> u32 {
-    let length = planner.kept().map_or(9, |plan| 1 + 2 * plan.steps.len() as u32);
+/// At and beside the length of the plan that is written, where there is one.
+fn output_length(random: &mut Random, standing: &Standing) -> u32 {
+    let length = standing.cheapest().map_or(9, |plan| 1 + 2 * plan.steps.len() as u32);
     let shorter = random.below(length as usize) as u32;
     let longer = length + random.below(100) as u32;
+    let longest = LONGEST_PLAN as u32;
     let long = if random.percent(5) { 5_000 } else { 256 };
-    random.pick(&[length, length, length, length + 1, longer, 69, length - 1, shorter, 0, 1, long])
+    let enough = [length, length, length, length + 1, longer, longest, long];
+    let short = [length - 1, shorter, 0, 1];
+    let lengths = if random.percent(65) { &enough[..] } else { &short };
+    random.pick(lengths)
 }

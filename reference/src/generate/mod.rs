@@ -4,4 +4,5 @@ pub mod calls;
 pub mod files;
 pub mod plans;
 pub mod queries;
+pub mod standing;
 pub mod unequal;

@@ -19,8 +19,8 @@ pub fn allowed(random: &mut Random, query: &Query) -> Option<Vec<Step>> {
 }
 
 /// Bytes to check, from those of the given plan to none at all.
-pub fn to_check(random: &mut Random, query: &Query, kept: Option<&[Step]>) -> Vec<u8> {
-    let near = match kept {
+pub fn to_check(random: &mut Random, query: &Query, plan: Option<&[Step]>) -> Vec<u8> {
+    let near = match plan {
         Some(steps) if random.percent(60) => Some(steps.to_vec()),
         _ => allowed(random, query),
     };

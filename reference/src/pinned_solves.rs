@@ -1,0 +1,99 @@
+//! Fixed lists of calls for solve alone: outputs of every length around a plan's, cells
+//! around what is needed, and what may stand between two solves.
+
+use crate::encode::encode;
+use crate::limits::MOST_SIZE;
+use crate::pinned;
+use crate::pinned_calls::{check, link, load, solve};
+use crate::query::{Line, Query, Relation, Site};
+use crate::script::Call;
+use crate::sets::{self, Set};
+use crate::tree;
+use crate::units::{Bytes, Charge, Rate};
+
+pub fn lists() -> Vec<Vec<Call>> {
+    vec![output_lengths(), cells(), between_two_solves()]
+}
+
+/// A row of docs/RULES.md, 10.3: Q is row 1, with a plan of 9 bytes; row 5 has one of 13,
+/// and row 6 has no route.
+fn row(number: usize) -> Query {
+    pinned::rows().swap_remove(number - 1).0
+}
+
+/// Outputs of every length from 0 to one more than the plan has; for the longest plan that
+/// there is, beside its own.
+pub fn output_lengths() -> Vec<Call> {
+    let mut calls = Vec::new();
+    for (number, most) in [(1, 10), (5, 14), (6, 14)] {
+        calls.push(load(&row(number)));
+        calls.extend((0..=most).map(|output| solve(4_096, output)));
+    }
+    calls.push(load(&longest_plan()));
+    calls.extend([68, 69, 70].map(|output| solve(4_096, output)));
+    calls
+}
+
+/// The query of examples/longest-plan.txt, whose plan has all the steps that a plan can have:
+/// lines are free, the first relations together grow fourfold with each join, and each join
+/// is cheapest at the next site.
+pub fn longest_plan() -> Query {
+    let terms =
+        [(0, 7), (10, 6), (50, 5), (210, 4), (850, 3), (3_410, 2), (13_650, 1), (54_610, 0)];
+    let site = |(fixed, rate)| Site { may_join: true, fixed: Charge(fixed), rate: Rate(rate) };
+    let relation = |home| Relation { home, index: false };
+    let free = Line { open: true, fixed: Charge(0), rate: Rate(0) };
+    let size = |&subquery: &Set| match sets::count(subquery) as u32 {
+        1 => Bytes(1),
+        count if sets::holds(subquery, 0) => Bytes(4u64.pow(count - 1)),
+        _ => Bytes(MOST_SIZE),
+    };
+    let joins = pinned::chain(9);
+    Query::new(
+        terms.map(site).to_vec(),
+        [7, 7, 7, 7, 7, 7, 7, 7, 0].map(relation).to_vec(),
+        joins.clone(),
+        tree::subqueries(&joins, 9).iter().map(size).collect(),
+        vec![free; 56],
+        0,
+    )
+}
+
+/// Too few cells, enough and more, each with outputs that do for Q's plan and that do not.
+pub fn cells() -> Vec<Call> {
+    let mut calls = Vec::new();
+    for number in [1, 6] {
+        calls.push(load(&row(number)));
+        for cells in [0, 4_095, 4_096, 5_000] {
+            calls.extend([9, 8, 0].map(|output| solve(cells, output)));
+        }
+    }
+    calls
+}
+
+/// Checks and refused calls leave the query in force, links and loads replace it: each
+/// solve answers by the query that then stands.
+pub fn between_two_solves() -> Vec<Call> {
+    let q = pinned::q();
+    let best = [4, 1, 0, 1, 1, 2, 0, 3, 0];
+    vec![
+        load(&q),
+        solve(4_096, 9),
+        check(&best),
+        check(&[]),
+        solve(4_096, 9),
+        Call::Load { file: encode(&q)[..106].to_vec() },
+        solve(4_096, 9),
+        solve(4_095, 9),
+        solve(4_096, 8),
+        solve(4_096, 9),
+        link(1, 0, 0, 1, 1),
+        solve(4_096, 9),
+        solve(4_096, 13),
+        check(&best),
+        link(2, 0, 0, 1, 1),
+        solve(4_096, 13),
+        load(&q),
+        solve(4_096, 9),
+    ]
+}

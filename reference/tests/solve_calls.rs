@@ -1,0 +1,93 @@
+//! Solve alone, as lines of the program `calls`: the length of its output, its cells, and
+//! the query that it answers by.
+
+use reference::answers;
+use reference::encode::encode;
+use reference::pinned_solves;
+
+/// Each in an output of just the plan's length.
+const Q: [&str; 2] = ["solved 21 9 3 040100010102000300", "cells OK"];
+const ROW_5: [&str; 2] = ["solved 26 13 3 06010002020101020203000200", "cells OK"];
+/// The longest plan: every relation and every joined result is sent.
+const LONGEST: &str = "solved 109213 69 960 22\
+    010002000101020003000201\
+    0102020103010202\
+    0103020203020203\
+    0104020303030204\
+    0105020403040205\
+    0106020503050206\
+    0107020603060207\
+    0108020703070200";
+const NO_ROUTE: [&str; 3] = ["no-route 3", "cells OK", "output OK"];
+const FEW_CELLS: [&str; 3] = ["refused 21", "cells OK", "output OK"];
+const SHORT_OUTPUT: [&str; 3] = ["refused 23", "cells OK", "output OK"];
+
+#[test]
+fn the_longest_plan_is_that_of_the_example() {
+    let file = std::fs::read("../examples/longest-plan.query").unwrap();
+    assert_eq!(encode(&pinned_solves::longest_plan()), file);
+}
+
+#[test]
+fn an_output_is_long_enough_or_too_short() {
+    let q_and_a_byte = ["solved 21 9 3 04010001010200030058", "cells OK"];
+    let row_5_and_a_byte = ["solved 26 13 3 06010002020101020203000200ec", "cells OK"];
+    let longest_and_a_byte = format!("{LONGEST}04");
+    let expected = [
+        vec!["load 2 3"],
+        SHORT_OUTPUT.repeat(9),
+        Q.to_vec(),
+        q_and_a_byte.to_vec(),
+        vec!["load 2 3"],
+        SHORT_OUTPUT.repeat(13),
+        ROW_5.to_vec(),
+        row_5_and_a_byte.to_vec(),
+        vec!["load 2 3"],
+        NO_ROUTE.repeat(15),
+        vec!["load 9 45"],
+        SHORT_OUTPUT.to_vec(),
+        vec![LONGEST, "cells OK"],
+        vec![&longest_and_a_byte, "cells OK"],
+    ];
+    assert_eq!(answers::lines(&pinned_solves::output_lengths()), expected.concat());
+}
+
+/// Each number of cells with 9, 8 and 0 bytes: 21 comes before 23 and before no route.
+#[test]
+fn cells_are_judged_before_the_output() {
+    let enough_for_q = [&Q[..], &SHORT_OUTPUT, &SHORT_OUTPUT].concat();
+    let expected = [
+        vec!["load 2 3"],
+        FEW_CELLS.repeat(2 * 3),
+        enough_for_q.repeat(2),
+        vec!["load 2 3"],
+        FEW_CELLS.repeat(2 * 3),
+        NO_ROUTE.repeat(2 * 3),
+    ];
+    assert_eq!(answers::lines(&pinned_solves::cells()), expected.concat());
+}
+
+#[test]
+fn each_solve_answers_by_the_query_in_force() {
+    let expected: [&[&str]; 18] = [
+        &["load 2 3"],
+        &Q,
+        &["check 21"],
+        &["refused 7"],
+        &Q,
+        &["refused 1"],
+        &Q,
+        &FEW_CELLS,
+        &SHORT_OUTPUT,
+        &Q,
+        &["link"],
+        &SHORT_OUTPUT,
+        &ROW_5,
+        &["refused 10 2"],
+        &["link"],
+        &NO_ROUTE,
+        &["load 2 3"],
+        &Q,
+    ];
+    assert_eq!(answers::lines(&pinned_solves::between_two_solves()), expected.concat());
+}
