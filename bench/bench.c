@@ -63,7 +63,7 @@ static planner planners[PLANNERS] = {
     {"before", NULL, NULL},
 };
 
-static const char *const works[WORKS] = {"solve", "load, solve, read"};
+static const char *const works[WORKS] = {"solve", "load and solve"};
 
 typedef struct {
     const char *name;

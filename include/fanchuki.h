@@ -47,7 +47,7 @@ enum fanchuki_refusal {
     /* the output is refused */
     FANCHUKI_SHORT_OUTPUT = 23, /* it is shorter than the plan */
 
-    /* never answered by fanchuki_plan: the refusals of link, solve, read and check, as the program `calls` lists them */
+    /* never answered by fanchuki_plan: the refusals of link, solve and check, as the program `calls` lists them */
     FANCHUKI_LINK_SITES = 6,        /* a link names an unlisted site, or one site twice */
     FANCHUKI_PLAN_LENGTH = 7,       /* a plan's count is outside 1 to 34 or its length isn't 1 + 2 x count */
     FANCHUKI_UNKNOWN_STEP = 8,      /* unknown kind, or argument not in the query */
@@ -56,8 +56,7 @@ enum fanchuki_refusal {
     FANCHUKI_JOIN_NOT_ALLOWED = 11, /* join not allowed, or fewer than two held */
     FANCHUKI_WRONG_END = 12,        /* not one result with every relation at the query site */
     FANCHUKI_NOTHING_LOADED = 20,   /* nothing loaded */
-    FANCHUKI_FEW_CELLS = 21,        /* work area below 4,096 cells */
-    FANCHUKI_NO_KEPT_PLAN = 22      /* no kept plan */
+    FANCHUKI_FEW_CELLS = 21         /* work area below 4,096 cells */
 };
 
 /* Loads the query file, solves it and writes the cheapest plan to the front of the output.

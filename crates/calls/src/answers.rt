@@ -10,7 +10,6 @@ use planner::CELLS;
 use planner::CheckAnswer;
 use planner::LinkAnswer;
 use planner::LoadAnswer;
-use planner::ReadAnswer;
 use planner::SolveAnswer;
 ghost use Prim.Native.Nat.{_≤_};
 
@@ -40,19 +39,6 @@ fn say_cells(kept: bool) -> bool {
     }
 }
 
-// All lent cells stay on a refusal, and those past the needed ones otherwise.
-pub(crate) fn of_solve(a: SolveAnswer, cells: &[u64; 8192], n: usize) -> bool
-    requires { ⌜ n ≤ 8192 ⌝ }
-{
-    match a {
-        SolveAnswer::Found { cost, trials } => line_two(b"solve ", cost.0, trials)
-            && say_cells(cells_kept(cells, CELLS, n)),
-        SolveAnswer::NoRoute { trials } => line(b"no-route ", trials)
-            && say_cells(cells_kept(cells, CELLS, n)),
-        SolveAnswer::Refused(k) => line(b"refused ", k) && say_cells(cells_kept(cells, 0, n)),
-    }
-}
-
 // Says whether the output is unchanged.
 fn say_output(kept: bool) -> bool {
     if kept {
@@ -62,20 +48,53 @@ fn say_output(kept: bool) -> bool {
     }
 }
 
-pub(crate) fn of_read(a: ReadAnswer, bytes: &[u8; 4096], n: usize) -> bool
-    requires { ⌜ n ≤ 4096 ⌝ }
+// `solved 21 9 3 04..`: cost, length, trials and the whole output.
+fn say_solved(cost: u64, length: u64, trials: u64, output: &[u8; 4096], m: usize) -> bool
+    requires { ⌜ m ≤ 4096 ⌝ }
+{
+    text(b"solved ")
+        && number(cost)
+        && text(b" ")
+        && number(length)
+        && text(b" ")
+        && number(trials)
+        && text(b" ")
+        && hex(output, m)
+        && text(b"\n")
+}
+
+// The first cell that must be unchanged after a refusal: all stay on 20 and 21, and those past the needed ones on 23.
+fn first_kept(refusal: u64) -> usize {
+    if refusal == 23 { CELLS } else { 0 }
+}
+
+pub(crate) fn of_solve(
+    a: SolveAnswer,
+    cells: &[u64; 8192],
+    n: usize,
+    output: &[u8; 4096],
+    m: usize,
+) -> bool
+    requires { ⌜ (n ≤ 8192) × (m ≤ 4096) ⌝ }
 {
     match a {
-        ReadAnswer::Wrote { length, cost } => {
-            text(b"read ")
-                && number(length)
-                && text(b" ")
-                && number(cost.0)
-                && text(b" ")
-                && hex(bytes, n)
-                && text(b"\n")
+        SolveAnswer::Found {
+            cost,
+            length,
+            trials,
+        } => {
+            say_solved(cost.0, length, trials, output, m) && say_cells(cells_kept(cells, CELLS, n))
         }
-        ReadAnswer::Refused(k) => line(b"refused ", k) && say_output(output_kept(bytes, n)),
+        SolveAnswer::NoRoute { trials } => {
+            line(b"no-route ", trials)
+                && say_cells(cells_kept(cells, CELLS, n))
+                && say_output(output_kept(output, m))
+        }
+        SolveAnswer::Refused(k) => {
+            line(b"refused ", k)
+                && say_cells(cells_kept(cells, first_kept(k), n))
+                && say_output(output_kept(output, m))
+        }
     }
 }
 

@@ -1,4 +1,4 @@
-// What is lent to solve and to read: filled before the call, and looked over after it.
+// What is lent to solve: filled before the call, and looked over after it.
 ghost use Prim.Native.Nat.{_≤_, _<_};
 ghost use mathlib.Core.Path.{_≡_};
 ghost use lib.ListN.{length};

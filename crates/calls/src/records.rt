@@ -48,9 +48,8 @@ pub(crate) fn next(p: Planner) -> After
     match kind {
         1 => load(p),
         2 => link(p),
-        3 => solve(p),
-        4 => read(p),
         5 => check(p),
+        6 => solve(p),
         _ => end(p),
     }
 }
@@ -98,35 +97,6 @@ fn link(p: Planner) -> After
     answered(done.planner, answers::of_link(answer))
 }
 
-// 3 solve: u32 number of cells lent, at most 8,192.
-fn solve(p: Planner) -> After
-    requires { ⌜ Sound p ⌝ }
-    ensures { λ r. ⌜ Sound (r .planner) ⌝ }
-{
-    let Got::Number(number) = input::four_bytes() else {
-        return end(p);
-    };
-    let n = input::at_most(number, 8192);
-    let mut cells = lent::cells();
-    let d = planner::solve(p, lent::front_cells(&mut cells, n));
-    let a = d.answer;
-    answered(d.planner, answers::of_solve(a, &cells, n))
-}
-
-// 4 read: u32 length of the output lent, at most 4,096.
-fn read(p: Planner) -> After
-    requires { ⌜ Sound p ⌝ }
-    ensures { λ r. ⌜ Sound (r .planner) ⌝ }
-{
-    let Got::Number(number) = input::four_bytes() else {
-        return end(p);
-    };
-    let n = input::at_most(number, 4096);
-    let mut bytes = lent::output();
-    let a = planner::read(p, lent::front_output(&mut bytes, n));
-    answered(p, answers::of_read(a, &bytes, n))
-}
-
 // 5 check: u16 length, plan bytes.
 fn check(p: Planner) -> After
     requires { ⌜ Sound p ⌝ }
@@ -142,4 +112,27 @@ fn check(p: Planner) -> After
     }
     let a = planner::check(p, input::front(&bytes, n));
     answered(p, answers::of_check(a))
+}
+
+// 6 solve: u32 number of cells lent, at most 8,192; u32 length of the output lent, at most 4,096.
+fn solve(p: Planner) -> After
+    requires { ⌜ Sound p ⌝ }
+    ensures { λ r. ⌜ Sound (r .planner) ⌝ }
+{
+    let Got::Number(number) = input::four_bytes() else {
+        return end(p);
+    };
+    let Got::Number(length) = input::four_bytes() else {
+        return end(p);
+    };
+    let n = input::at_most(number, 8192);
+    let m = input::at_most(length, 4096);
+    let mut cells = lent::cells();
+    let mut output = lent::output();
+    let a = planner::solve(
+        p,
+        lent::front_cells(&mut cells, n),
+        lent::front_output(&mut output, m),
+    );
+    answered(p, answers::of_solve(a, &cells, n, &output, m))
 }

@@ -1,10 +1,9 @@
 -- Every planner that a list of calls gives is sound, and the query that stands in it is the query in force: by induction over the list.
 use Prim.Native.Nat.{ℕ}
-use mathlib.Core.Path.{_≡_, refl, sym, ap, _∙_}
+use mathlib.Core.Path.{_≡_, refl, ap, _∙_}
 use mathlib.Core.Bool.{Bool, true, false}
 use mathlib.Core.List.{List}
 use mathlib.Core.Option.{Option, none, some}
-use lib.ListN.{length}
 use denote.Ref.{now}
 use Rattle.query.specs.declared.Query.{Query}
 use Rattle.query.specs.Choice.{pick}
@@ -17,25 +16,23 @@ use Rattle.planner.specs.State.{State}
 use Rattle.planner.specs.Done.{Done}
 use Rattle.planner.specs.Load.{load, loadDecoded}
 use Rattle.planner.specs.Link as linking
-use Rattle.planner.specs.Link.{Link, linkOf, sitesListed, termsInRange, link, linkQuery}
+use Rattle.planner.specs.Link.{Link, linkOf, sitesListed, termsInRange, link}
 use Rattle.planner.specs.Contracts.{stateOf, Sound}
-use Rattle.planner.proofs.Again.{solve-query}
-use Rattle.claim.specs.Lists.{Call, afterLoad, afterLink, inForce, Runs, at-first, loads, links, solves, reads, checks}
+use Rattle.claim.specs.Lists.{Call, afterLoad, afterLink, inForce, Runs, at-first, loads, links, solves, checks}
 
 pub sound : {calls : List Call} {p : Planner} → Runs calls p → Sound p
 sound (at-first e) = e .1
 sound (loads κs file last r w e) = e .1
 sound (links a b f x r d w e) = e .1
-sound (solves κs cells last r w e) = e .1 .0
-sound (reads κs output last r w e) = sound w
+sound (solves κs cells cells' output output' r w e) = sound w
 sound (checks κs plan last r w e) = sound w
 
 -- What each call's definition does to the query that stands.
-decoded-query : (x : Read Query) (s : State) → loadDecoded x s .next .query ≡ afterLoad x (s .query)
+decoded-query : (x : Read Query) (s : State) → loadDecoded x s .next ≡ afterLoad x s
 decoded-query (fields.refused k) s = refl
 decoded-query (value q l) s = refl
 
-load-query : (file : List ℕ) (s : State) → load file s .next .query ≡ afterLoad (decode file) (s .query)
+load-query : (file : List ℕ) (s : State) → load file s .next ≡ afterLoad (decode file) s
 unfolding load
 load-query file s = decoded-query (decode file) s
 
@@ -44,25 +41,21 @@ both-picked : {A : Type 0} (P : A → Option Query → Type 0) (t : Bool) {x y :
 both-picked P true h k = h
 both-picked P false h k = k
 
-linked-query : (o : Option Query) (l : Link) (s : State) → o ≡ s .query → linkQuery o l s .next .query ≡ afterLink l o
-linked-query none l s e = sym e
-linked-query (some q) l s e =
-    let P : Done linking.Answer → Option Query → Type 0 = λ d a. d .next .query ≡ a in
-    both-picked P (sitesListed (sitesOf q) (l .sender) (l .receiver)) (both-picked P (termsInRange (l .terms)) refl (sym e)) (sym e)
-
-link-query : (l : Link) (s : State) → link l s .next .query ≡ afterLink l (s .query)
+link-query : (l : Link) (s : State) → link l s .next ≡ afterLink l s
 unfolding link
-link-query l s = linked-query (s .query) l s refl
+link-query l none = refl
+link-query l (some q) =
+    let P : Done linking.Answer → Option Query → Type 0 = λ d a. d .next ≡ a in
+    both-picked P (sitesListed (sitesOf q) (l .sender) (l .receiver)) (both-picked P (termsInRange (l .terms)) refl refl) refl
 
 -- What a call leaves standing, by what its definition does.
-left-standing : {A : Type 0} {d e : Done A} → d ≡ e → d .next .query ≡ e .next .query
+left-standing : {A : Type 0} {d e : Done A} → d ≡ e → d .next ≡ e .next
 left-standing e = rw e
 
-pub stands : {calls : List Call} {p : Planner} → Runs calls p → stateOf p .query ≡ inForce calls
+pub stands : {calls : List Call} {p : Planner} → Runs calls p → stateOf p ≡ inForce calls
 unfolding inForce
-stands (at-first e) = ap (λ (s : State). s .query) (e .0)
+stands (at-first e) = e .0
 stands (loads {p} κs file last r w e) = left-standing (e .0) ∙ load-query (now file) (stateOf p) ∙ ap (afterLoad (decode (now file))) (stands w)
 stands (links {p} a b f x r d w e) = left-standing (e .0) ∙ link-query (linkOf a b f x r) (stateOf p) ∙ ap (afterLink (linkOf a b f x r)) (stands w)
-stands (solves {p} κs cells last r w e) = left-standing (e .0) ∙ solve-query (length (now cells)) (stateOf p) ∙ stands w
-stands (reads κs output last r w e) = stands w
+stands (solves κs cells cells' output output' r w e) = stands w
 stands (checks κs plan last r w e) = stands w

@@ -1,27 +1,26 @@
--- The promise, whole: a claim over every list of load, link, solve, read and check calls, refused ones included, that starts from an empty
+-- The promise, whole: a claim over every list of load, link, solve and check calls, refused ones included, that starts from an empty
 -- planner and ends in an admitted solve. Proved in proofs/Promise.antt.
 use Prim.{tt}
 use Prim.Native.Nat.{ℕ, _+_, _≤_}
 use mathlib.Core.Path.{_≡_}
 use mathlib.Core.Logic.{_↔_}
 use mathlib.Core.Bool.{true}
-use mathlib.Core.List.{List}
-use mathlib.Core.Option.{none, some}
-use lib.ListN.{length}
+use mathlib.Core.List.{List, _++_}
+use mathlib.Core.Option.{some}
+use lib.ListN.{length, drop}
 use denote.Ref.{RefT, now}
 use contract.Lifetimes.{Lfts}
 use Rattle.query.specs.declared.Query.{Query}
-use Rattle.rules.specs.Allowed.{AllowedAt, Allowed}
+use Rattle.rules.specs.Allowed.{AllowedAt, Allowed, longestPlan}
 use Rattle.tables.specs.Tables.{trials}
+use Rattle.tables.specs.Work.{cellsNeeded}
 use Rattle.planner.specs.declared.Planner.{Planner}
-use Rattle.planner.specs.declared.AfterSolve.{AfterSolve}
-use Rattle.planner.specs.State.{Kept}
+use Rattle.planner.specs.declared.SolveAnswer.{SolveAnswer}
 use Rattle.planner.specs.Solve.{Answer, found, noRoute, refused, solveAdmitted}
-use Rattle.planner.specs.Contracts.{stateOf, ofSolve}
+use Rattle.planner.specs.Contracts.{ofSolve}
 use Rattle.planner.proofs.load.Reads as Load
 use Rattle.planner.proofs.link.Reads as Link
 use Rattle.planner.proofs.solve.Reads as Solve
-use Rattle.planner.proofs.read.Reads as Read
 use Rattle.planner.proofs.check.Reads as Check
 use Rattle.claim.specs.Lists.{Call, inForce, Runs}
 
@@ -33,39 +32,46 @@ NoPlan q = (plan : List ℕ) → Allowed q plan → ⊥
 abbrev pub NoneCheaper : Query → ℕ → Type 0
 NoneCheaper q c = (plan : List ℕ) (x : ℕ) → AllowedAt _+_ q plan x → c ≤ x
 
--- The kept plan is allowed, and costs exactly c.
-pub record KeptAt (q : Query) (c : ℕ) (p : Planner) : Type 0 where
-  pub kept : Kept
-  pub is-kept : stateOf p .kept ≡ some kept
-  pub allowed : AllowedAt _+_ q (kept .plan) c
-  pub cost : kept .cost ≡ c
+-- A plan of l bytes stands at the front of the output, whose rest stayed: it is allowed, and costs exactly c.
+pub record WrittenAt (q : Query) (c l : ℕ) (before after : List ℕ) : Type 0 where
+  pub plan : List ℕ
+  pub bytes : length plan ≡ l
+  pub front : after ≡ plan ++ drop l before
+  pub allowed : AllowedAt _+_ q plan c
 
--- What an admitted solve answers for the query in force: no route and the trials, where no plan is allowed; or the cost and the trials,
--- where the kept plan is allowed at that cost and none is cheaper. It answers nothing else.
-abbrev pub Right : Query → Answer → Planner → Type 0
-Right q (noRoute t) p = NoPlan q × (stateOf p .kept ≡ none) × (t ≡ trials q)
-Right q (found c t) p = KeptAt q c p × NoneCheaper q c × (t ≡ trials q)
-Right q (refused k) p = ⊥
+-- What an admitted solve answers for the query in force: no route and the trials, where no plan is allowed and the output stayed; or the
+-- cost, the length and the trials, where the plan at the front of the output is allowed at that cost and none is cheaper. It answers nothing
+-- else.
+abbrev pub Right : Query → Answer → (before after : List ℕ) → Type 0
+Right q (noRoute t) before after = NoPlan q × (after ≡ before) × (t ≡ trials q)
+Right q (found c l t) before after = WrittenAt q c l before after × NoneCheaper q c × (t ≡ trials q)
+Right q (refused k) before after = ⊥
 
 -- What the list's last solve comes to.
-pub record Solved (calls : List Call) (r : AfterSolve) : Type 0 where
+pub record Solved (calls : List Call) (r : SolveAnswer) (before after : List ℕ) : Type 0 where
   pub query : Query
   pub in-force : inForce calls ≡ some query
-  pub right : Right query (ofSolve (r .answer)) (r .planner)
-  pub no-route : (ofSolve (r .answer) ≡ noRoute (trials query)) ↔ NoPlan query
+  pub right : Right query (ofSolve r) before after
+  pub no-route : (ofSolve r ≡ noRoute (trials query)) ↔ NoPlan query
 
 -- Demand 3.
 abbrev pub Demand3 : Type 0
 Demand3 =
-    (calls : List Call) (p : Planner) → Runs calls p → (κs : Lfts 1) (cells last : RefT (List ℕ)) (r : AfterSolve) →
-    Solve.Post κs (p, (cells, tt)) r (p, (last, tt)) → solveAdmitted (inForce calls) (length (now cells)) ≡ true → Solved calls r
+    (calls : List Call) (p : Planner) → Runs calls p → (κs : Lfts 2) (cells cells' output output' : RefT (List ℕ)) (r : SolveAnswer) →
+    Solve.Post κs (p, (cells, (output, tt))) r (p, (cells', (output', tt))) →
+    solveAdmitted (inForce calls) (length (now cells)) (length (now output)) ≡ true → Solved calls r (now output) (now output')
+
+-- While a query is in force, a solve with as many cells as it needs and room for the longest plan is admitted.
+abbrev pub Ample : Type 0
+Ample =
+    (calls : List Call) (p : Planner) → Runs calls p → (q : Query) → inForce calls ≡ some q →
+    (cells bytes : ℕ) → cellsNeeded q ≤ cells → longestPlan ≤ bytes → solveAdmitted (inForce calls) cells bytes ≡ true
 
 -- Every call may be made on every planner that a list of calls gives: what each function requires holds there, whatever the call brings.
 pub record Callable (p : Planner) : Type 0 where
   pub load : (κs : Lfts 1) (file : RefT (List ℕ)) → Load.Pre κs (p, (file, tt))
   pub link : (a b f x r : ℕ) → Link.Pre tt (p, (a, (b, (f, (x, (r, tt))))))
-  pub solve : (κs : Lfts 1) (cells : RefT (List ℕ)) → Solve.Pre κs (p, (cells, tt))
-  pub read : (κs : Lfts 1) (output : RefT (List ℕ)) → Read.Pre κs (p, (output, tt))
+  pub solve : (κs : Lfts 2) (cells output : RefT (List ℕ)) → Solve.Pre κs (p, (cells, (output, tt)))
   pub check : (κs : Lfts 1) (plan : RefT (List ℕ)) → Check.Pre κs (p, (plan, tt))
 
 abbrev pub EveryCall : Type 0

@@ -14,23 +14,20 @@ use Rattle.decoder.specs.Decode.{decode}
 use Rattle.planner.specs.declared.Planner.{Planner}
 use Rattle.planner.specs.declared.AfterLoad.{AfterLoad}
 use Rattle.planner.specs.declared.AfterLink.{AfterLink}
-use Rattle.planner.specs.declared.AfterSolve.{AfterSolve}
-use Rattle.planner.specs.declared.ReadAnswer.{ReadAnswer}
+use Rattle.planner.specs.declared.SolveAnswer.{SolveAnswer}
 use Rattle.planner.specs.declared.CheckAnswer.{CheckAnswer}
 use Rattle.planner.specs.Link.{Link, linkOf, sitesListed, termsInRange, relinedBy}
 use Rattle.planner.proofs.empty.Reads as Empty
 use Rattle.planner.proofs.load.Reads as Load
 use Rattle.planner.proofs.link.Reads as Link-reads
 use Rattle.planner.proofs.solve.Reads as Solve
-use Rattle.planner.proofs.read.Reads as Read-reads
 use Rattle.planner.proofs.check.Reads as Check
 
 -- A call with its own arguments, input bytes and lent areas, with anything in them.
 pub data Call : Type 0 where
   load : (file : List ℕ) → Call
   link : (sender receiver opened fixed rate : ℕ) → Call
-  solve : (cells : List ℕ) → Call
-  read : (output : List ℕ) → Call
+  solve : (cells output : List ℕ) → Call
   check : (plan : List ℕ) → Call
 
 -- What a call does to the query in force. An admitted load puts its query in force.
@@ -43,12 +40,11 @@ abbrev pub afterLink : Link → Option Query → Option Query
 afterLink l none = none
 afterLink l (some q) = pick (sitesListed (sitesOf q) (l .sender) (l .receiver)) (pick (termsInRange (l .terms)) (some (relinedBy q l)) (some q)) (some q)
 
--- Solve, read, check and every refused call leave it as it is.
+-- Solve, check and every refused call leave it as it is.
 abbrev pub force : Call → Option Query → Option Query
 force (load file) o = afterLoad (decode file) o
 force (link a b f x r) o = afterLink (linkOf a b f x r) o
-force (solve cells) o = o
-force (read output) o = o
+force (solve cells output) o = o
 force (check plan) o = o
 
 -- The query in force after a list of calls, the latest first. At first there is none.
@@ -67,11 +63,8 @@ pub data Runs : List Call → Planner → Type 0 where
       {calls : List Call} {p : Planner} (a b f x r : ℕ) (d : AfterLink) →
       Runs calls p → Link-reads.Post tt (p, (a, (b, (f, (x, (r, tt)))))) d (p, (a, (b, (f, (x, (r, tt)))))) → Runs (link a b f x r ∷ calls) (d .planner)
   solves :
-      {calls : List Call} {p : Planner} (κs : Lfts 1) (cells last : RefT (List ℕ)) (r : AfterSolve) →
-      Runs calls p → Solve.Post κs (p, (cells, tt)) r (p, (last, tt)) → Runs (solve (now cells) ∷ calls) (r .planner)
-  reads :
-      {calls : List Call} {p : Planner} (κs : Lfts 1) (output last : RefT (List ℕ)) (r : ReadAnswer) →
-      Runs calls p → Read-reads.Post κs (p, (output, tt)) r (p, (last, tt)) → Runs (read (now output) ∷ calls) p
+      {calls : List Call} {p : Planner} (κs : Lfts 2) (cells cells' output output' : RefT (List ℕ)) (r : SolveAnswer) →
+      Runs calls p → Solve.Post κs (p, (cells, (output, tt))) r (p, (cells', (output', tt))) → Runs (solve (now cells) (now output) ∷ calls) p
   checks :
       {calls : List Call} {p : Planner} (κs : Lfts 1) (plan last : RefT (List ℕ)) (r : CheckAnswer) →
       Runs calls p → Check.Post κs (p, (plan, tt)) r (p, (last, tt)) → Runs (check (now plan) ∷ calls) p

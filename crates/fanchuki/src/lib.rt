@@ -2,12 +2,11 @@
 use planner::CELLS;
 use planner::LoadAnswer;
 use planner::Planner;
-use planner::ReadAnswer;
 use planner::SolveAnswer;
 ghost use Prim.Native.Nat.{_+_, _≤_};
 ghost use mathlib.Core.Path.{_≡_};
 ghost use Rattle.planner.specs.Contracts.{stateOf, Sound};
-ghost use Rattle.fanchuki.specs.Served.{served, serveRead, serveSolve, serve};
+ghost use Rattle.fanchuki.specs.Served.{served, serveSolve, serve};
 
 // What stands for a refusal: 256 plus its number.
 fn refusal(k: u64) -> u64
@@ -17,34 +16,25 @@ fn refusal(k: u64) -> u64
     256 + k
 }
 
-// Reads the kept plan.
-fn read(p: Planner, output: &mut [u8]) -> u64
-    requires { ⌜ Sound p ⌝ }
-    ensures { λ r. ⌜ served r (now (output .exit)) ≡ serveRead (stateOf p) (now (output .entry)) ⌝ }
-{
-    let a = planner::read(p, output);
-    match a {
-        ReadAnswer::Wrote { length, cost: _ } => length,
-        ReadAnswer::Refused(k) => refusal(k),
-    }
-}
-
-// Solves the standing query over cells of its own, and reads the plan.
+// Solves the standing query over cells of its own.
 fn solve(p: Planner, output: &mut [u8]) -> u64
     requires { ⌜ Sound p ⌝ }
     ensures { λ r. ⌜ served r (now (output .exit)) ≡ serveSolve (stateOf p) (now (output .entry)) ⌝ }
 {
     let mut cells = [0u64; CELLS];
-    let d = planner::solve(p, &mut cells);
-    let a = d.answer;
+    let a = planner::solve(p, &mut cells, output);
     match a {
-        SolveAnswer::Found { cost: _, trials: _ } => read(d.planner, output),
+        SolveAnswer::Found {
+            cost: _,
+            length,
+            trials: _,
+        } => length,
         SolveAnswer::NoRoute { trials: _ } => 0,
         SolveAnswer::Refused(k) => refusal(k),
     }
 }
 
-// Loads, solves and reads, in that order, on a planner of its own.
+// Loads and solves, in that order, on a planner of its own.
 #[no_mangle]
 pub extern "C" fn fanchuki_plan(query: &[u8], output: &mut [u8]) -> u64
     ensures { λ r. ⌜ served r (now (output .exit)) ≡ serve (now (query .entry)) (now (output .entry)) ⌝ }

@@ -5,7 +5,6 @@ use planner::CELLS;
 use planner::LONGEST_PLAN;
 use planner::LoadAnswer;
 use planner::Planner;
-use planner::ReadAnswer;
 use planner::SolveAnswer;
 use relations::wide;
 ghost use Prim.Native.Nat.{_+_, _<_};
@@ -90,25 +89,22 @@ fn plan(plan: &[u8; LONGEST_PLAN], cost: u64, trials: u64) -> Listed
     }
 }
 
-// Solves the standing query, and reads and lists the plan that is found.
+// Solves the standing query, and lists the plan that is found.
 fn solve(p: Planner) -> Listed
     requires { ⌜ Sound p ⌝ }
     ensures { λ r. ⌜ r .lines ≡ linesSolved (stateOf p) ⌝ }
 {
     let mut cells = [0u64; CELLS];
-    let solved = planner::solve(p, &mut cells);
-    let a = solved.answer;
+    let mut bytes = [0u8; LONGEST_PLAN];
+    let a = planner::solve(p, &mut cells, &mut bytes);
     match a {
         SolveAnswer::Refused(k) => refused(k),
         SolveAnswer::NoRoute { trials } => no_route(trials),
-        SolveAnswer::Found { cost, trials } => {
-            let mut bytes = [0u8; LONGEST_PLAN];
-            let b = planner::read(solved.planner, &mut bytes);
-            match b {
-                ReadAnswer::Refused(k) => refused(k),
-                ReadAnswer::Wrote { length: _, cost: _ } => plan(&bytes, cost.0, trials),
-            }
-        }
+        SolveAnswer::Found {
+            cost,
+            length: _,
+            trials,
+        } => plan(&bytes, cost.0, trials),
     }
 }
 

@@ -1,44 +1,35 @@
--- Solve leaves the query that stands, and its answer hangs on that query and the cells alone: solving again answers the same.
+-- What solve answers hangs on the query, the cells and the length of the output, not on what the output holds: solving again into the
+-- same output answers the same.
 use Prim.Native.Nat.{ℕ, _+_}
-use mathlib.Core.Path.{_≡_, refl, sym, ap, _∙_}
+use mathlib.Core.Path.{_≡_, refl}
 use mathlib.Core.Bool.{Bool, true, false}
-use mathlib.Core.Option.{Option, none, some}
+use mathlib.Core.List.{List}
+use mathlib.Core.Option.{none, some}
+use lib.ListN.{length}
 use lib.Dec.{ltb}
 use Rattle.query.specs.declared.Query.{Query}
 use Rattle.query.specs.Choice.{pick}
 use Rattle.query.specs.Cost.{Cost}
-use Rattle.tables.specs.Tables.{cheapest}
+use Rattle.tables.specs.Tables.{cheapest, trials}
+use Rattle.tables.specs.Written.{written}
 use Rattle.tables.specs.Work.{cellsNeeded}
 use Rattle.planner.specs.State.{State}
-use Rattle.planner.specs.Done.{Done, doneWith}
-use Rattle.planner.specs.Solve.{Answer, refused, solved, solveQuery, solve}
+use Rattle.planner.specs.Solve.{Solving, writing, solved, solve}
 
-solved-query : (q : Query) (c : Cost) → solved q c .next .query ≡ some q
-solved-query q Cost.none = refl
-solved-query q (Cost.some c) = refl
+-- Either way of a test answers the same.
+picked-answer : (t : Bool) (a b c d : Solving) → a .answer ≡ c .answer → b .answer ≡ d .answer → (pick t a b) .answer ≡ (pick t c d) .answer
+picked-answer true a b c d h k = h
+picked-answer false a b c d h k = k
 
--- Either way of a test leaves the query.
-picked-query : (t : Bool) (x y : Done Answer) {o : Option Query} → x .next .query ≡ o → y .next .query ≡ o → (pick t x y) .next .query ≡ o
-picked-query true x y h k = h
-picked-query false x y h k = k
+module _ (out other : List ℕ) (same : length out ≡ length other) where
+  writing-again : (c t : ℕ) (plan : List ℕ) → writing c t plan out .answer ≡ writing c t plan other .answer
+  writing-again c t plan = rw same (picked-answer (ltb (length other) (length plan)) _ _ _ _ refl refl)
 
-solve-standing : (o : Option Query) (n : ℕ) (s : State) → o ≡ s .query → solveQuery o n s .next .query ≡ o
-solve-standing none n s e = sym e
-solve-standing (some q) n s e = picked-query (ltb n (cellsNeeded q)) _ (solved q (cheapest _+_ q)) (sym e) (solved-query q (cheapest _+_ q))
+  solved-again : (q : Query) (c : Cost) → solved q c out .answer ≡ solved q c other .answer
+  solved-again q Cost.none = refl
+  solved-again q (Cost.some c) = writing-again c (trials q) (written _+_ q)
 
-pub solve-query : (n : ℕ) (s : State) → solve n s .next .query ≡ s .query
-unfolding solve
-solve-query n s = solve-standing (s .query) n s refl
-
--- Either way of a test answers the same in both states.
-picked-answer : (b : Bool) (d : Done Answer) (s t : State) → (pick b (doneWith (refused 21) s) d) .answer ≡ (pick b (doneWith (refused 21) t) d) .answer
-picked-answer true d s t = refl
-picked-answer false d s t = refl
-
-pub solve-again : (n : ℕ) (s t : State) → s .query ≡ t .query → solve n s .answer ≡ solve n t .answer
-unfolding solve
-solve-again n s t e = ap (λ (o : Option Query). solveQuery o n s .answer) e ∙ go (t .query)
-  where
-    go : (o : Option Query) → solveQuery o n s .answer ≡ solveQuery o n t .answer
-    go none = refl
-    go (some q) = picked-answer (ltb n (cellsNeeded q)) (solved q (cheapest _+_ q)) s t
+  pub solve-again : (n : ℕ) (s : State) → solve n out s .answer ≡ solve n other s .answer
+  unfolding solve
+  solve-again n none = refl
+  solve-again n (some q) = picked-answer (ltb n (cellsNeeded q)) _ _ _ _ refl (solved-again q (cheapest _+_ q))

@@ -4,14 +4,14 @@ use native.Mathlib.Omega.{arith}
 use mathlib.Core.Path.{_≡_, refl}
 use mathlib.Core.Bool.{true}
 use mathlib.Core.List.{List}
-use mathlib.Core.Option.{Option, none, some}
-use lib.ListN.{drop}
+use mathlib.Core.Option.{none, some}
+use lib.ListN.{length, drop}
 use borrow.Author.Tests.{le-ltb}
 use Rattle.query.specs.declared.Query.{Query}
 use Rattle.tables.specs.Work.{cellsNeeded}
 use Rattle.planner.specs.declared.Planner.{Planner}
 use Rattle.planner.specs.State.{State}
-use Rattle.planner.specs.Solve.{solveQuery, solve, needed, solveNeeded}
+use Rattle.planner.specs.Solve.{solve, used, needed, solveNeeded}
 use Rattle.planner.specs.Contracts.{stateOf}
 
 -- The code's constant `CELLS`.
@@ -30,20 +30,19 @@ pub cells-enough : (q : Query) (n : ℕ) → ampleCells ≤ n → cellsNeeded q 
 cells-enough q n h = omega (arith, cells-needed q)
 
 -- So many are enough whatever stands.
-pub needed-enough : (o : Option Query) (n : ℕ) → ampleCells ≤ n → needed o ≤ n
+pub needed-enough : (s : State) (n : ℕ) → ampleCells ≤ n → needed s ≤ n
 needed-enough none n h = omega arith
 needed-enough (some q) n h = cells-enough q n h
 
+-- Where solve goes on, the cells that it uses are those that it needs.
 pub cells-later :
-    (p : Planner) (new old : List ℕ) → p .loaded ≡ true → drop (cellsNeeded (p .query)) new ≡ drop (cellsNeeded (p .query)) old →
-    drop (needed (stateOf p .query)) new ≡ drop (needed (stateOf p .query)) old
-cells-later p new old loaded e = rw loaded e
+    (p : Planner) (new old : List ℕ) → p .loaded ≡ true → cellsNeeded (p .query) ≤ length old →
+    drop (cellsNeeded (p .query)) new ≡ drop (cellsNeeded (p .query)) old →
+    drop (used (stateOf p) (length old)) new ≡ drop (used (stateOf p) (length old)) old
+cells-later p new old loaded enough e = rw (loaded, le-ltb (length old) (cellsNeeded (p .query)) enough) e
 
--- Cells past the needed ones change neither the answer nor the state.
-pub solve-enough : (n : ℕ) (s : State) → needed (s .query) ≤ n → solve n s ≡ solveNeeded s
+-- Cells past the needed ones change neither the answer nor the output.
+pub solve-enough : (n : ℕ) (out : List ℕ) (s : State) → needed s ≤ n → solve n out s ≡ solveNeeded out s
 unfolding solve
-solve-enough n s = go (s .query)
-  where
-    go : (o : Option Query) → needed o ≤ n → solveQuery o n s ≡ solveQuery o (needed o) s
-    go none h = refl
-    go (some q) h = rw (le-ltb n (cellsNeeded q) h, le-ltb (cellsNeeded q) (cellsNeeded q) (omega arith))
+solve-enough n out none h = refl
+solve-enough n out (some q) h = rw (le-ltb n (cellsNeeded q) h, le-ltb (cellsNeeded q) (cellsNeeded q) (omega arith))

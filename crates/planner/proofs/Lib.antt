@@ -4,6 +4,5 @@ pub mod Linking
 pub mod Cells
 pub mod Again
 pub mod Solving
-pub mod Reading
 pub mod Checking
 pub mod Worked

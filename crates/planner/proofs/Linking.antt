@@ -26,10 +26,10 @@ module _ (p : Planner) (l : Link) (loaded : p .loaded ≡ true) (t : Bool) (list
     unfolding link
     link-out n = rw (loaded, ← listed, both-listed, ← ranged, n)
 
-    -- The planner after an admitted link: the query has the line, and no plan is kept.
-    pub link-goes : (r : Planner) → u ≡ true → r .loaded ≡ true → r .kept ≡ false → r .query ≡ relinedBy (p .query) l → doneOf linked r ≡ link l (stateOf p)
+    -- The planner after an admitted link: the query has the line.
+    pub link-goes : (r : Planner) → u ≡ true → r .loaded ≡ true → r .query ≡ relinedBy (p .query) l → doneOf linked r ≡ link l (stateOf p)
     unfolding link
-    link-goes r in-range h k m = rw (loaded, ← listed, both-listed, ← ranged, in-range, h, k, m)
+    link-goes r in-range h m = rw (loaded, ← listed, both-listed, ← ranged, in-range, h, m)
 
 -- Listed sites are below eight.
 pub sites-low : (p : Planner) (a b : ℕ) → Sound p → p .loaded ≡ true → (t : Bool) → t ≡ sitesListed (sitesOf (p .query)) a b → t ≡ true → (a < 8) × (b < 8)
@@ -49,8 +49,7 @@ terms-fair o f r u ranged in-range =
     (leb-true _ _ (b .0), leb-true _ _ (b .1), leb-true _ _ (a .1))
 
 pub link-sound :
-    (p r : Planner) (l : Link) → Sound p → p .loaded ≡ true → l .terms .fixed ≤ 1_000_000 → l .terms .rate ≤ 1_000 → r .length ≡ p .length →
-    r .query ≡ relinedBy (p .query) l → Sound r
-link-sound p r l s e f g h m = record { valid = λ _. rw m (linked-valid (p .query) (s .valid e) (l .sender) (l .receiver) (l .terms) f g); short = rw h (s .short) }
+    (p r : Planner) (l : Link) → Sound p → p .loaded ≡ true → l .terms .fixed ≤ 1_000_000 → l .terms .rate ≤ 1_000 → r .query ≡ relinedBy (p .query) l → Sound r
+link-sound p r l s e f g m = record { valid = λ _. rw m (linked-valid (p .query) (s .valid e) (l .sender) (l .receiver) (l .terms) f g) }
 
 pub ruleset linking = (not-true, not-false, link-nothing, link-unlisted, link-out, link-goes, link-sound)

@@ -2,7 +2,8 @@
 use Prim.Native.Nat.{ℕ}
 use mathlib.Core.List.{List}
 use mathlib.Core.Path.{_≡_, refl}
-use mathlib.Core.Bool.{true, false}
+use mathlib.Core.Bool.{true}
+use mathlib.Core.Option.{some}
 use native.Mathlib.Omega.{arith}
 use Rattle.query.specs.declared.Query.{Query}
 use Rattle.decoder.specs.declared.sections.Outcome.{Outcome}
@@ -13,7 +14,7 @@ use Rattle.decoder.specs.Code.{decodedOf}
 use Rattle.decoder.specs.Decode.{decode}
 use Rattle.decoder.proofs.Valid.{decoded-valid}
 use Rattle.planner.specs.declared.Planner.{Planner}
-use Rattle.planner.specs.State.{State, standing}
+use Rattle.planner.specs.State.{State}
 use Rattle.planner.specs.Done.{doneWith}
 use Rattle.planner.specs.Load.{loaded, refused, loadDecoded, load}
 use Rattle.planner.specs.Contracts.{stateOf, doneOf, Sound}
@@ -25,7 +26,7 @@ refused-load (value q l) s k e = absurd (let z : _≡_ {A = ℕ} 0 1 = cc in ome
 
 whole-load :
     (x : Read Query) (s : State) → decodedOf x .outcome ≡ Outcome.Whole →
-    doneWith (loaded (decodedOf x .query .relations .count) (decodedOf x .subqueries)) (standing (decodedOf x .query)) ≡ loadDecoded x s
+    doneWith (loaded (decodedOf x .query .relations .count) (decodedOf x .subqueries)) (some (decodedOf x .query)) ≡ loadDecoded x s
 whole-load (fields.refused j) s e = absurd (let z : _≡_ {A = ℕ} 0 1 = cc in omega arith)
 whole-load (value q l) s e = refl
 
@@ -34,16 +35,13 @@ module _ (p : Planner) (file : List ℕ) (d : Decoded) (decoded : d ≡ decodedO
   unfolding load
   load-refused k e = refused-load (decode file) (stateOf p) k (rw decoded at e)
 
-  -- The planner after an admitted load: the query stands, and no plan is kept.
+  -- The planner after an admitted load: the query stands.
   module _ (r : Planner) (whole : d .outcome ≡ Outcome.Whole) (r-query : r .query ≡ d .query) where
-    pub load-goes : r .loaded ≡ true → r .kept ≡ false → doneOf (loaded (d .query .relations .count) (d .subqueries)) r ≡ load file (stateOf p)
+    pub load-goes : r .loaded ≡ true → doneOf (loaded (d .query .relations .count) (d .subqueries)) r ≡ load file (stateOf p)
     unfolding load
-    load-goes h k = rw (h, k, r-query, decoded) (whole-load (decode file) (stateOf p) (rw decoded at whole))
+    load-goes h = rw (h, r-query, decoded) (whole-load (decode file) (stateOf p) (rw decoded at whole))
 
-    pub load-sound : Sound p → r .length ≡ p .length → Sound r
-    load-sound s h = record {
-      valid = λ _. rw r-query (decoded-valid file d decoded whole);
-      short = rw h (s .short);
-    }
+    pub load-sound : Sound r
+    load-sound = record { valid = λ _. rw r-query (decoded-valid file d decoded whole) }
 
 pub ruleset loading = (load-refused, load-goes, load-sound)

@@ -1,12 +1,12 @@
 -- One law for each way through solve: what the tests and the solver's answer make of the call's definition.
 use Prim.Native.Nat.{ℕ, _+_, _≤_, _<_}
 use native.Mathlib.Omega.{arith}
-use mathlib.Core.Path.{_≡_, refl, sym, _∙_}
+use mathlib.Core.Path.{_≡_, refl, sym, ap, _∙_}
 use mathlib.Core.Bool.{true, false}
-use mathlib.Core.List.{List}
-use lib.ListN.{length, drop}
-use lib.Seq.{take-append-seam}
-use borrow.Author.Tests.{lt-ltb, le-ltb, le-leb, not-true, not-false}
+use mathlib.Core.List.{List, _++_}
+use lib.ListN.{length, take, drop}
+use lib.Seq.{length-take-le, take-append-seam, take-length}
+use borrow.Author.Tests.{lt-ltb, le-ltb, not-true, not-false}
 use Rattle.query.specs.declared.Query.{Query}
 use Rattle.query.specs.declared.Charge.{Charge}
 use Rattle.query.specs.Cost.{Cost, none, some}
@@ -21,24 +21,19 @@ use Rattle.solver.specs.Solution.{solutionOf, planAfter}
 use Rattle.tables.proofs.Upper.{written-most}
 use Rattle.rules.proofs.Combinations.{plus-combines}
 use Rattle.planner.specs.declared.Planner.{Planner}
-use Rattle.planner.specs.Solve.{found, noRoute, refused, solve, solveAdmitted}
-use Rattle.planner.specs.Contracts.{stateOf, doneOf, Sound}
+use Rattle.planner.specs.Solve.{found, noRoute, refused, solvingOf, solve}
+use Rattle.planner.specs.Contracts.{stateOf}
 use Rattle.planner.proofs.Standing.{standing-valid}
 use Rattle.planner.proofs.Cells.{cells-few, cells-enough, cells-later}
 
-pub solve-nothing : (p : Planner) (n : ℕ) → p .loaded ≡ false → doneOf (refused 20) p ≡ solve n (stateOf p)
-unfolding solve
-solve-nothing p n e = rw e
+module _ (p : Planner) (n : ℕ) (out : List ℕ) where
+  pub solve-nothing : p .loaded ≡ false → solvingOf (refused 20) out ≡ solve n out (stateOf p)
+  unfolding solve
+  solve-nothing e = rw e
 
-pub solve-few : (p : Planner) (n : ℕ) → p .loaded ≡ true → n < cellsNeeded (p .query) → doneOf (refused 21) p ≡ solve n (stateOf p)
-unfolding solve
-solve-few p n e h = rw (e, lt-ltb n (cellsNeeded (p .query)) h)
-
--- Where solve is admitted nothing is said of the cells after a refusal.
-pub not-refused :
-    (p : Planner) (new old : List ℕ) → p .loaded ≡ true → cellsNeeded (p .query) ≤ length old → solveAdmitted (stateOf p .query) (length old) ≡ false → new ≡ old
-not-refused p new old e h f =
-    absurd (let g : true ≡ false = rw (e, le-leb (cellsNeeded (p .query)) (length old) h) at f in let z : _≡_ {A = ℕ} 0 1 = cc in omega arith)
+  pub solve-few : p .loaded ≡ true → n < cellsNeeded (p .query) → solvingOf (refused 21) out ≡ solve n out (stateOf p)
+  unfolding solve
+  solve-few e h = rw (e, lt-ltb n (cellsNeeded (p .query)) h)
 
 -- The solver's answer by what the query costs.
 module _ (q : Query) (c : Charge) (l t : ℕ) where
@@ -62,60 +57,83 @@ none-trials : (q : Query) (t : ℕ) (x : Cost) → solutionOf q x ≡ NoRoute t 
 none-trials q t none e = cc
 none-trials q t (some d) e = absurd (let z : _≡_ {A = ℕ} 0 1 = cc in omega arith)
 
-module _ (p r : Planner) (s : Solution) (n : ℕ) (loaded : p .loaded ≡ true) (enough : cellsNeeded (p .query) ≤ n) (answer : s ≡ solutionOf (p .query) (cheapest _+_ (p .query)))
-    (r-loaded : r .loaded ≡ p .loaded) (r-query : r .query ≡ p .query) where
-  -- The planner after a plan was found: it is kept, with its cost.
-  module _ (c : Charge) (l t : ℕ) (is : s ≡ Found c l t) where
-    same : solutionOf (p .query) (cheapest _+_ (p .query)) ≡ Found c l t
-    same = sym answer ∙ is
+-- Copying all of a plan puts it at the front.
+put-front : (k plan out new : List ℕ) → k ≡ plan → new ≡ take (length k) k ++ drop (length k) out → new ≡ plan ++ drop (length plan) out
+put-front k plan out new e w = rw (w, take-length k, e)
 
-    pub solve-found :
-        (old : List ℕ) → r .plan ≡ planAfter (cheapest _+_ (p .query)) (written _+_ (p .query)) old → r .kept ≡ true → r .cost ≡ c → r .length ≡ l →
-        doneOf (found (c .0) t) r ≡ solve n (stateOf p)
+module _
+    (p : Planner) (s : Solution) (n : ℕ) (out : List ℕ) (loaded : p .loaded ≡ true) (enough : cellsNeeded (p .query) ≤ n)
+    (answer : s ≡ solutionOf (p .query) (cheapest _+_ (p .query)))
+  where
+    pub solve-no-route : (t : ℕ) → s ≡ NoRoute t → solvingOf (noRoute t) out ≡ solve n out (stateOf p)
     unfolding solve
-    solve-found old w k f g =
-        let e = is-found (p .query) c l t (cheapest _+_ (p .query)) same in
-        rw (
-          r-loaded,
-          loaded,
-          r-query,
-          k,
-          f,
-          g,
-          w,
-          le-ltb n (cellsNeeded (p .query)) enough,
-          e,
-          found-length (p .query) c l t (cheapest _+_ (p .query)) same,
-          found-trials (p .query) c l t (cheapest _+_ (p .query)) same,
-          take-append-seam (written _+_ (p .query)) (drop (length (written _+_ (p .query))) old),
-        )
+    solve-no-route t is =
+        let same = sym answer ∙ is in
+        rw (loaded, le-ltb n (cellsNeeded (p .query)) enough, is-none (p .query) t (cheapest _+_ (p .query)) same, none-trials (p .query) t (cheapest _+_ (p .query)) same)
 
-  pub solve-no-route : (t : ℕ) → s ≡ NoRoute t → r .kept ≡ false → doneOf (noRoute t) r ≡ solve n (stateOf p)
-  unfolding solve
-  solve-no-route t is k =
-      let e = is-none (p .query) t (cheapest _+_ (p .query)) (sym answer ∙ is) in
-      rw (r-loaded, loaded, r-query, k, le-ltb n (cellsNeeded (p .query)) enough, e, none-trials (p .query) t (cheapest _+_ (p .query)) (sym answer ∙ is))
+    -- A plan is found.
+    module _ (c : Charge) (l t : ℕ) (is : s ≡ Found c l t) where
+      same : solutionOf (p .query) (cheapest _+_ (p .query)) ≡ Found c l t
+      same = sym answer ∙ is
 
--- A plan that was found is no longer than a plan may be.
-pub found-short : (q : Query) → Valid q → (s : Solution) → s ≡ solutionOf q (cheapest _+_ q) → (c : Charge) (l t : ℕ) → s ≡ Found c l t → l ≤ longestPlan
-found-short q valid s answer c l t is =
-    let same = sym answer ∙ is in
-    rw (found-length q c l t (cheapest _+_ q) same) (written-most _+_ plus-combines q valid (c .0) (is-found q c l t (cheapest _+_ q) same))
+      costs : cheapest _+_ (p .query) ≡ some (c .0)
+      costs = is-found (p .query) c l t (cheapest _+_ (p .query)) same
 
--- Solve leaves the query, and a planner that is sound.
-pub solve-sound : (p r : Planner) → Sound p → p .loaded ≡ true → r .query ≡ p .query → r .length ≤ longestPlan → Sound r
-solve-sound p r s loaded same short = record { valid = λ _. rw same (s .valid loaded); short = short }
+      long : l ≡ length (written _+_ (p .query))
+      long = found-length (p .query) c l t (cheapest _+_ (p .query)) same
+
+      pub solve-short : length out < l → solvingOf (refused 23) out ≡ solve n out (stateOf p)
+      unfolding solve
+      solve-short h = rw (loaded, le-ltb n (cellsNeeded (p .query)) enough, costs, ← long, lt-ltb (length out) l h)
+
+      -- Its bytes are the front of the solver's array, which is copied to the front of the output.
+      front : (plan old : List ℕ) → plan ≡ planAfter (cheapest _+_ (p .query)) (written _+_ (p .query)) old → take l plan ≡ written _+_ (p .query)
+      front plan old e = rw (e, costs, long) (take-append-seam (written _+_ (p .query)) (drop (length (written _+_ (p .query))) old))
+
+      pub solve-found :
+          (plan old new : List ℕ) → plan ≡ planAfter (cheapest _+_ (p .query)) (written _+_ (p .query)) old → l ≤ length out →
+          (let k = take l plan in new ≡ take (length k) k ++ drop (length k) out) → solvingOf (found (c .0) l t) new ≡ solve n out (stateOf p)
+      unfolding solve
+      solve-found plan old new e h w =
+          rw (
+            put-front (take l plan) (written _+_ (p .query)) out new (front plan old e) w,
+            loaded,
+            le-ltb n (cellsNeeded (p .query)) enough,
+            costs,
+            found-trials (p .query) c l t (cheapest _+_ (p .query)) same,
+            ← long,
+            le-ltb (length out) l h,
+          )
+
+-- A plan that was found is no longer than a plan may be, so that it lies whole in the array, and fits where there is room for it.
+module _ (q : Query) (valid : Valid q) (s : Solution) (answer : s ≡ solutionOf q (cheapest _+_ q)) (c : Charge) (l t : ℕ) (is : s ≡ Found c l t) where
+  pub found-short : l ≤ longestPlan
+  found-short =
+      let same = sym answer ∙ is in
+      rw (found-length q c l t (cheapest _+_ q) same) (written-most _+_ plus-combines q valid (c .0) (is-found q c l t (cheapest _+_ q) same))
+
+  module _ (plan : List ℕ) (room : length plan ≡ longestPlan) where
+    pub found-whole : l ≤ length plan
+    found-whole = omega (arith, found-short)
+
+    pub found-long : l ≡ length (take l plan)
+    found-long = rw (length-take-le l plan found-whole)
+
+    pub found-fits : (n : ℕ) → l ≤ n → length (take l plan) ≤ n
+    found-fits n h = rw (← found-long) h
 
 pub ruleset solving = (
   not-true,
   not-false,
   solve-nothing,
   solve-few,
-  not-refused,
+  solve-no-route,
+  solve-short,
   solve-found,
   found-short,
-  solve-no-route,
-  solve-sound,
+  found-whole,
+  found-long,
+  found-fits,
   cells-few,
   cells-enough,
   cells-later,

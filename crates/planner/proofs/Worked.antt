@@ -18,32 +18,35 @@ use Rattle.tables.specs.Work.{cellsNeeded}
 use Rattle.planner.specs.Load.{load}
 use Rattle.planner.specs.Link.{sitesListed, termsInRange, link}
 use Rattle.planner.specs.Solve.{solve}
-use Rattle.planner.specs.Read.{read}
 use Rattle.planner.specs.Check.{check}
 use Rattle.planner.specs.Worked.{Worked}
 
 pub worked : Worked
-unfolding ones onesIn trailingZeros bit put inside leads step grow isSubquery countBelow reaches part number field items storing section terms two sitesSection relationsSection joinsSection sized sizesSection line sender linesSection deliverySection decode home index mayJoin joinFixed joinRate isOpen lineFixed lineRate size parcels linePrice carriage prices.read reads joinPrice indexed machine.load machine.sendTop machine.send machine.links machine.spared machine.joinTop machine.join machine.step plans.finish plans.run plans.checked best byJoin joinedBy deliveredBy deliveredUpTo delivered joined joinsBelow bestSite bestJoin joinedSteps deliveredSteps stepsUpTo writtenDelivered cellsNeeded load sitesListed termsInRange link solve read check
+unfolding ones onesIn trailingZeros bit put inside leads step grow isSubquery countBelow reaches part number field items storing section terms two sitesSection relationsSection joinsSection sized sizesSection line sender linesSection deliverySection decode home index mayJoin joinFixed joinRate isOpen lineFixed lineRate size parcels linePrice carriage prices.read reads joinPrice indexed machine.load machine.sendTop machine.send machine.links machine.spared machine.joinTop machine.join machine.step plans.finish plans.run plans.checked best byJoin joinedBy deliveredBy deliveredUpTo delivered joined joinsBelow bestSite bestJoin joinedSteps deliveredSteps stepsUpTo writtenDelivered cellsNeeded load sitesListed termsInRange link solve check
 worked = record {
   q-length = refl;
   q-decoded = refl;
   load-q = refl;
   solve-q = refl;
-  read-q = refl;
+  solve-q-just = refl;
   check-q = refl;
   link-row5 = refl;
   check-row5 = refl;
   solve-row5 = refl;
   link-row6 = refl;
   solve-row6 = refl;
+  solve-row6-short = refl;
   load-again = refl;
   link-20 = refl;
   solve-20 = refl;
-  read-20 = refl;
   check-20 = refl;
   solve-21 = refl;
-  read-22 = refl;
-  read-23 = refl;
+  solve-21-row6 = refl;
+  solve-23 = refl;
+  solve-23-none = refl;
+  used-20 = refl;
+  used-21 = refl;
+  used-q = refl;
   load-1 = refl;
   load-2 = refl;
   load-3 = refl;

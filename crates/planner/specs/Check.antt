@@ -1,8 +1,7 @@
 -- Check, with a lent plan: answers the cost; the state stays. Refusals 20, then those of the plan.
 use Prim.Native.Nat.{ℕ, _+_}
 use mathlib.Core.List.{List}
-use mathlib.Core.Option.{Option, none, some}
-use Rattle.query.specs.declared.Query.{Query}
+use mathlib.Core.Option.{none, some}
 use Rattle.rules.specs.Allowed.{Verdict, accepted, rejected, checked}
 use Rattle.planner.specs.State.{State}
 
@@ -15,9 +14,6 @@ abbrev pub judged : Verdict → Answer
 judged (accepted c) = allowed c
 judged (rejected k place) = refused k place
 
-abbrev pub checkQuery : Option Query → List ℕ → Answer
-checkQuery none plan = refused 20 0
-checkQuery (some q) plan = judged (checked _+_ q plan)
-
 unfoldable pub check : List ℕ → State → Answer
-check plan s = checkQuery (s .query) plan
+check plan none = refused 20 0
+check plan (some q) = judged (checked _+_ q plan)

@@ -1,13 +1,13 @@
--- Link: replaces the line from its sender to its receiver and drops the kept plan. Refusals 20, 6, 3.
+-- Link: replaces the line from its sender to its receiver. Refusals 20, 6, 3.
 use Prim.Native.Nat.{ℕ}
 use mathlib.Core.Bool.{Bool, not, _&&_}
-use mathlib.Core.Option.{Option, none, some}
+use mathlib.Core.Option.{none, some}
 use lib.Dec.{eqb, ltb, leb}
 use Rattle.query.specs.declared.Query.{Query}
 use Rattle.query.specs.Choice.{pick}
 use Rattle.query.specs.Query.{sitesOf}
 use Rattle.query.specs.Terms.{Terms, relined}
-use Rattle.planner.specs.State.{State, standing}
+use Rattle.planner.specs.State.{State}
 use Rattle.planner.specs.Done.{Done, doneWith}
 
 -- Link's arguments: sender, receiver, and the line's open flag, fixed amount and rate.
@@ -36,12 +36,9 @@ abbrev pub relinedBy : Query → Link → Query
 relinedBy q l = relined q (l .sender) (l .receiver) (l .terms)
 
 -- A refusal changes no state.
-abbrev pub linkQuery : Option Query → Link → State → Done Answer
-linkQuery none l s = doneWith (refused 20) s
-linkQuery (some q) l s =
-    pick (sitesListed (sitesOf q) (l .sender) (l .receiver))
-    (pick (termsInRange (l .terms)) (doneWith linked (standing (relinedBy q l))) (doneWith (refused 3) s))
-    (doneWith (refused 6) s)
-
 unfoldable pub link : Link → State → Done Answer
-link l s = linkQuery (s .query) l s
+link l none = doneWith (refused 20) none
+link l (some q) =
+    pick (sitesListed (sitesOf q) (l .sender) (l .receiver))
+    (pick (termsInRange (l .terms)) (doneWith linked (some (relinedBy q l))) (doneWith (refused 3) (some q)))
+    (doneWith (refused 6) (some q))

@@ -1,13 +1,14 @@
--- Load: replaces the query and drops the kept plan; answers n and the number of subqueries. The refusals are those of the file.
+-- Load: replaces the query; answers n and the number of subqueries. The refusals are those of the file.
 use Prim.Native.Nat.{ℕ}
 use mathlib.Core.List.{List}
+use mathlib.Core.Option.{some}
 use Rattle.relations.specs.Trees.{subqueries}
 use Rattle.query.specs.declared.Query.{Query}
 use Rattle.query.specs.Query.{relationsOf}
 use Rattle.decoder.specs.Fields.{Read, value}
 use Rattle.decoder.specs.Fields as fields
 use Rattle.decoder.specs.Decode.{decode}
-use Rattle.planner.specs.State.{State, standing}
+use Rattle.planner.specs.State.{State}
 use Rattle.planner.specs.Done.{Done, doneWith}
 
 -- What load answers. A refusal's other fields are 0.
@@ -18,7 +19,7 @@ pub data Answer : Type 0 where
 -- A refusal changes no state.
 abbrev pub loadDecoded : Read Query → State → Done Answer
 loadDecoded (fields.refused k) s = doneWith (refused k) s
-loadDecoded (value q l) s = doneWith (loaded (relationsOf q) (subqueries (q .joins) (relationsOf q))) (standing q)
+loadDecoded (value q l) s = doneWith (loaded (relationsOf q) (subqueries (q .joins) (relationsOf q))) (some q)
 
 unfoldable pub load : List ℕ → State → Done Answer
 load file s = loadDecoded (decode file) s

@@ -1,46 +1,74 @@
--- Solve, with a lent work area of so many cells: keeps the plan and answers its cost and trials, or answers no route with trials and keeps
--- none. Refusals 20, 21.
+-- Solve, with a lent work area of so many cells and a lent output: writes the cheapest plan at the front of the output, the rest stays, and
+-- answers its cost, its length and the trials; or answers no route with the trials. The state stays. Refusals 20, 21, and 23 once a plan is
+-- found.
 use Prim.Native.Nat.{ℕ, _+_}
-use mathlib.Core.Bool.{Bool, false}
-use mathlib.Core.Option.{Option, none, some}
+use mathlib.Core.Bool.{Bool, true, false, _&&_}
+use mathlib.Core.List.{List, _++_}
+use mathlib.Core.Option.{none, some}
+use lib.ListN.{length, drop, replicate}
 use lib.Dec.{ltb, leb}
 use Rattle.query.specs.declared.Query.{Query}
 use Rattle.query.specs.Choice.{pick}
 use Rattle.query.specs.Cost.{Cost}
+use Rattle.rules.specs.Allowed.{longestPlan}
 use Rattle.tables.specs.Tables.{cheapest, trials}
 use Rattle.tables.specs.Written.{written}
 use Rattle.tables.specs.Work.{cellsNeeded}
-use Rattle.planner.specs.State.{State, standing}
-use Rattle.planner.specs.Done.{Done, doneWith}
+use Rattle.planner.specs.State.{State}
 
 -- What solve answers. A refusal's other fields are 0.
 pub data Answer : Type 0 where
-  found : (cost trials : ℕ) → Answer
+  found : (cost length trials : ℕ) → Answer
   noRoute : (trials : ℕ) → Answer
   refused : (number : ℕ) → Answer
 
-abbrev pub solved : Query → Cost → Done Answer
-solved q Cost.none = doneWith (noRoute (trials q)) (standing q)
-solved q (Cost.some c) = doneWith (found c (trials q)) (record { query = some q; kept = some (record { plan = written _+_ q; cost = c }) })
+-- The answer, and the output as solve leaves it.
+pub record Solving : Type 0 where
+  pub answer : Answer
+  pub output : List ℕ
 
--- A refusal changes no state.
-abbrev pub solveQuery : Option Query → ℕ → State → Done Answer
-solveQuery none cells s = doneWith (refused 20) s
-solveQuery (some q) cells s = pick (ltb cells (cellsNeeded q)) (doneWith (refused 21) s) (solved q (cheapest _+_ q))
+abbrev pub solvingOf : Answer → List ℕ → Solving
+solvingOf a out = record { answer = a; output = out }
 
-unfoldable pub solve : ℕ → State → Done Answer
-solve cells s = solveQuery (s .query) cells s
+-- A plan is found: it goes to the front of an output that has room for it.
+abbrev pub writing : (cost trials : ℕ) → (plan out : List ℕ) → Solving
+writing c t plan out =
+    pick (ltb (length out) (length plan)) (solvingOf (refused 23) out)
+    (solvingOf (found c (length plan) t) (plan ++ drop (length plan) out))
+
+-- By what the query costs. Without a route the output stays, however short it is.
+abbrev pub solved : Query → Cost → List ℕ → Solving
+solved q Cost.none out = solvingOf (noRoute (trials q)) out
+solved q (Cost.some c) out = writing c (trials q) (written _+_ q) out
+
+-- A refusal changes no lent byte.
+unfoldable pub solve : (cells : ℕ) → (out : List ℕ) → State → Solving
+solve cells out none = solvingOf (refused 20) out
+solve cells out (some q) = pick (ltb cells (cellsNeeded q)) (solvingOf (refused 21) out) (solved q (cheapest _+_ q) out)
+
+-- How many first cells solve uses: none where it refuses 20 or 21, else those that it needs. What they then hold is free, after 23 too;
+-- later cells stay.
+abbrev pub used : State → (cells : ℕ) → ℕ
+used none cells = 0
+used (some q) cells = pick (ltb cells (cellsNeeded q)) 0 (cellsNeeded q)
 
 -- Solve is admitted: none of its refusals applies.
-abbrev pub solveAdmitted : Option Query → ℕ → Bool
-solveAdmitted none cells = false
-solveAdmitted (some q) cells = leb (cellsNeeded q) cells
+abbrev pub hasRoom : Query → Cost → (bytes : ℕ) → Bool
+hasRoom q Cost.none bytes = true
+hasRoom q (Cost.some c) bytes = leb (length (written _+_ q)) bytes
 
--- What so many first cells then hold is free; later cells stay. Where nothing is loaded all stay.
-abbrev pub needed : Option Query → ℕ
+abbrev pub solveAdmitted : State → (cells bytes : ℕ) → Bool
+solveAdmitted none cells bytes = false
+solveAdmitted (some q) cells bytes = leb (cellsNeeded q) cells && hasRoom q (cheapest _+_ q) bytes
+
+-- Solve with as many cells as it needs.
+abbrev pub needed : State → ℕ
 needed none = 0
 needed (some q) = cellsNeeded q
 
--- Solve with as many cells as it needs.
-abbrev pub solveNeeded : State → Done Answer
-solveNeeded s = solve (needed (s .query)) s
+abbrev pub solveNeeded : List ℕ → State → Solving
+solveNeeded out s = solve (needed s) out s
+
+-- An output of zeros, with room for the longest plan.
+abbrev pub blank : List ℕ
+blank = replicate longestPlan 0

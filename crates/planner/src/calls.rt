@@ -1,49 +1,40 @@
-// The calls. The state goes in by value and comes back by value; a refusal hands back what came in.
+// The calls. The state goes in by value; load and link, which may change it, hand it back, and a refusal hands back what came in.
 use crate::AfterLink;
 use crate::AfterLoad;
-use crate::AfterSolve;
 use crate::CELLS;
 use crate::CheckAnswer;
 use crate::LONGEST_PLAN;
 use crate::LinkAnswer;
 use crate::LoadAnswer;
 use crate::Planner;
-use crate::ReadAnswer;
 use crate::SolveAnswer;
 use decoder::MOST_FIXED;
 use decoder::MOST_RATE;
 use decoder::Outcome;
-use query::Charge;
 use query::Query;
 use rules::Checked;
 use solver::Solution;
 ghost use Prim.Native.Nat.{_≤_, _<_};
 ghost use mathlib.Core.Path.{_≡_};
-ghost use mathlib.Core.Bool.{false};
+ghost use mathlib.Core.Option.{none};
 ghost use lib.ListN.{length, drop};
-ghost use Rattle.planner.specs.State.{nothing};
 ghost use Rattle.planner.specs.Load.{load};
 ghost use Rattle.planner.specs.Link.{link, linkOf, sitesListed, termsInRange, relinedBy};
-ghost use Rattle.planner.specs.Solve.{solve, solveAdmitted, needed};
-ghost use Rattle.planner.specs.Read.{readingOf, read};
+ghost use Rattle.planner.specs.Solve.{solvingOf, solve, used};
 ghost use Rattle.planner.specs.Check.{check};
-ghost use Rattle.planner.specs.Contracts.{stateOf, doneOf, ofLoad, ofLink, ofSolve, ofRead, ofCheck, Sound};
+ghost use Rattle.planner.specs.Contracts.{stateOf, doneOf, ofLoad, ofLink, ofSolve, ofCheck, Sound};
 
-// The empty planner: no query stands and no plan is kept.
+// The empty planner: nothing stands.
 pub fn empty() -> Planner
-    ensures { λ r. ⌜ (stateOf r ≡ nothing) × Sound r ⌝ }
+    ensures { λ r. ⌜ (stateOf r ≡ none) × Sound r ⌝ }
 {
     Planner {
         loaded: false,
         query: query::no_query(),
-        kept: false,
-        cost: Charge(0),
-        length: 0,
-        plan: [0u8; LONGEST_PLAN],
     }
 }
 
-// Load: replaces the query and drops the kept plan; answers the number of relations and of subqueries.
+// Load: replaces the query; answers the number of relations and of subqueries.
 pub fn load(p: Planner, file: &[u8]) -> AfterLoad
     requires { ⌜ Sound p ⌝ }
     ensures done { λ r. ⌜ doneOf (ofLoad (r .answer)) (r .planner) ≡ load (now (file .entry)) (stateOf p) ⌝ }
@@ -66,8 +57,6 @@ pub fn load(p: Planner, file: &[u8]) -> AfterLoad
                 planner: Planner {
                     loaded: true,
                     query: q,
-                    kept: false,
-                    ..p
                 },
             }
         }
@@ -102,7 +91,7 @@ fn relined(q: Query, sender: u64, receiver: u64, opened: u64, fixed: u64, rate: 
     Query { lines, ..q }
 }
 
-// Link: replaces the line from the sender to the receiver and drops the kept plan.
+// Link: replaces the line from the sender to the receiver.
 pub fn link(p: Planner, sender: u64, receiver: u64, opened: u64, fixed: u64, rate: u64) -> AfterLink
     requires { ⌜ Sound p ⌝ }
     ensures done { λ r. ⌜ doneOf (ofLink (r .answer)) (r .planner) ≡ link (linkOf sender receiver opened fixed rate) (stateOf p) ⌝ }
@@ -131,78 +120,45 @@ pub fn link(p: Planner, sender: u64, receiver: u64, opened: u64, fixed: u64, rat
         answer: LinkAnswer::Linked,
         planner: Planner {
             query: relined(q, sender, receiver, opened, fixed, rate),
-            kept: false,
             ..p
         },
     }
 }
 
-// Solve: keeps the cheapest plan and answers its cost and trials, or answers no route with trials and keeps none.
-// Of the cells only those past the needed ones are said to stay; a refusal leaves them all.
-pub fn solve(p: Planner, cells: &mut [u64]) -> AfterSolve
+// Solve: writes the cheapest plan at the front of the output and answers its cost, its length and the trials, or answers no route with the
+// trials. The plan is first written into an array of its own, so that no byte of the output is touched before it is known that it fits.
+// Of the cells those past the used ones are said to stay.
+pub fn solve(p: Planner, cells: &mut [u64], output: &mut [u8]) -> SolveAnswer
     requires { ⌜ Sound p ⌝ }
-    ensures done { λ r. ⌜ doneOf (ofSolve (r .answer)) (r .planner) ≡ solve (length (now (cells .entry))) (stateOf p) ⌝ }
-    ensures sound { λ r. ⌜ Sound (r .planner) ⌝ }
-    ensures later { λ _. ⌜ drop (needed (stateOf p .query)) (now (cells .exit)) ≡ drop (needed (stateOf p .query)) (now (cells .entry)) ⌝ }
-    ensures refused { λ _. ⌜ (solveAdmitted (stateOf p .query) (length (now (cells .entry))) ≡ false → now (cells .exit) ≡ now (cells .entry)) ⌝ }
+    ensures solved { λ r. ⌜ solvingOf (ofSolve r) (now (output .exit)) ≡ solve (length (now (cells .entry))) (now (output .entry)) (stateOf p) ⌝ }
+    ensures later { λ _.
+        ⌜ drop (used (stateOf p) (length (now (cells .entry)))) (now (cells .exit)) ≡ drop (used (stateOf p) (length (now (cells .entry)))) (now (cells .entry)) ⌝ }
 {
     if !p.loaded {
-        return AfterSolve {
-            answer: SolveAnswer::Refused(20),
-            planner: p,
-        };
+        return SolveAnswer::Refused(20);
     }
     if cells.len() < CELLS {
-        return AfterSolve {
-            answer: SolveAnswer::Refused(21),
-            planner: p,
-        };
+        return SolveAnswer::Refused(21);
     }
     let mut plan = [0u8; LONGEST_PLAN];
     let s = solver::solve(p.query, cells, &mut plan);
     match s {
+        Solution::NoRoute { trials } => SolveAnswer::NoRoute { trials },
         Solution::Found {
             cost,
             length,
             trials,
-        } => AfterSolve {
-            answer: SolveAnswer::Found { cost, trials },
-            planner: Planner {
-                kept: true,
+        } => {
+            if output.len() < length {
+                return SolveAnswer::Refused(23);
+            }
+            bytes::copy(&plan[..length], output);
+            SolveAnswer::Found {
                 cost,
-                length,
-                plan,
-                ..p
-            },
-        },
-        Solution::NoRoute { trials } => AfterSolve {
-            answer: SolveAnswer::NoRoute { trials },
-            planner: Planner { kept: false, ..p },
-        },
-    }
-}
-
-// Read: writes the kept plan at the front of the output; answers its length and its cost.
-pub fn read(p: Planner, output: &mut [u8]) -> ReadAnswer
-    requires { ⌜ Sound p ⌝ }
-    ensures { λ r. ⌜ readingOf (ofRead r) (now (output .exit)) ≡ read (now (output .entry)) (stateOf p) ⌝ }
-{
-    if !p.loaded {
-        return ReadAnswer::Refused(20);
-    }
-    if !p.kept {
-        return ReadAnswer::Refused(22);
-    }
-    let length = p.length;
-    if output.len() < length {
-        return ReadAnswer::Refused(23);
-    }
-    let plan = p.plan;
-    bytes::copy(&plan[..length], &mut output[..]);
-    let cost = p.cost;
-    ReadAnswer::Wrote {
-        length: length as u64,
-        cost,
+                length: length as u64,
+                trials,
+            }
+        }
     }
 }
 

@@ -1,11 +1,10 @@
-// The planner: the standing state and the calls load, link, solve, read and check.
+// The planner: the standing state and the calls load, link, solve and check.
 mod calls;
 
 pub use calls::check;
 pub use calls::empty;
 pub use calls::link;
 pub use calls::load;
-pub use calls::read;
 pub use calls::solve;
 use query::Charge;
 use query::Query;
@@ -19,11 +18,6 @@ pub struct Planner {
     // Whether a query stands, and the query.
     loaded: bool,
     query: Query,
-    // Whether a plan is kept; its cost, its length and its bytes.
-    kept: bool,
-    cost: Charge,
-    length: usize,
-    plan: [u8; LONGEST_PLAN],
 }
 
 // What load answers: the number of relations and of subqueries, or the refusal's number.
@@ -38,16 +32,16 @@ pub enum LinkAnswer {
     Refused(u64),
 }
 
-// What solve answers: the kept plan's cost, or no route; and the trials.
+// What solve answers: the written plan's cost and its length in bytes, or no route; and the trials.
 pub enum SolveAnswer {
-    Found { cost: Charge, trials: u64 },
-    NoRoute { trials: u64 },
-    Refused(u64),
-}
-
-// What read answers: the kept plan's length in bytes and its cost.
-pub enum ReadAnswer {
-    Wrote { length: u64, cost: Charge },
+    Found {
+        cost: Charge,
+        length: u64,
+        trials: u64,
+    },
+    NoRoute {
+        trials: u64,
+    },
     Refused(u64),
 }
 
@@ -65,10 +59,5 @@ pub struct AfterLoad {
 
 pub struct AfterLink {
     pub answer: LinkAnswer,
-    pub planner: Planner,
-}
-
-pub struct AfterSolve {
-    pub answer: SolveAnswer,
     pub planner: Planner,
 }

@@ -1,5 +1,6 @@
 // For the benchmark: many solves of one query on one planner.
 use planner::CELLS;
+use planner::LONGEST_PLAN;
 use planner::Planner;
 use planner::SolveAnswer;
 ghost use Prim.Native.Nat.{_≤_};
@@ -12,26 +13,28 @@ fn found(a: SolveAnswer) -> u64
     ensures { λ r. ⌜ (r ≡ foundBy (ofSolve a) 1) × (r ≤ 1) ⌝ }
 {
     match a {
-        SolveAnswer::Found { cost: _, trials: _ } => 1,
+        SolveAnswer::Found {
+            cost: _,
+            length: _,
+            trials: _,
+        } => 1,
         SolveAnswer::NoRoute { trials: _ } => 0,
         SolveAnswer::Refused(_) => 0,
     }
 }
 
-// Solves so many times over one work area, and counts the plans that were found.
-fn solves(start: Planner, times: u64) -> u64
-    requires { ⌜ Sound start ⌝ }
-    ensures { λ r. ⌜ r ≡ foundBy (answerIn (stateOf start)) times ⌝ }
+// Solves so many times over one work area and one output, and counts the plans that were found.
+fn solves(p: Planner, times: u64) -> u64
+    requires { ⌜ Sound p ⌝ }
+    ensures { λ r. ⌜ r ≡ foundBy (answerIn (stateOf p)) times ⌝ }
 {
     let mut cells = [0u64; CELLS];
-    let mut p = start;
+    let mut output = [0u8; LONGEST_PLAN];
     let mut plans = 0;
     let mut i = 0;
     while i < times {
-        let d = planner::solve(p, &mut cells);
-        let a = d.answer;
+        let a = planner::solve(p, &mut cells, &mut output);
         plans += found(a);
-        p = d.planner;
         i += 1;
     }
     plans

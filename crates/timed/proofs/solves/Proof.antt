@@ -1,8 +1,9 @@
--- Each turn solves on a sound planner whose query is the first one's, and counts what that query's solve finds.
+-- Each turn solves on the same planner, and counts what its solve finds.
 use Prim.Native.Nat.{_≤_, _-_}
 use mathlib.Core.Path.{_≡_}
 use lib.ListN.{length}
 use borrow.Author.Needs.{needs}
+use Rattle.planner.specs.Solve.{blank}
 use Rattle.planner.specs.Contracts.{stateOf, Sound}
 use Rattle.planner.proofs.Cells.{ampleCells}
 use Rattle.timed.specs.Found.{foundBy, answerIn}
@@ -11,11 +12,11 @@ use Rattle.timed.proofs.solves.Statement.{statement}
 use Rattle.timed.proofs.solves.Tie as tie
 
 abbrev Inv-loop : tie.InvT-loop
-Inv-loop times cells₀ p₀ plans₀ i₀ cells p plans i =
-    (i ≤ times) × (plans ≤ i) × (length cells ≡ ampleCells) × Sound p × (stateOf p .query ≡ stateOf p₀ .query) × (plans ≡ foundBy (answerIn (stateOf p₀)) i)
+Inv-loop p times cells₀ output₀ plans₀ i₀ cells output plans i =
+    (i ≤ times) × (plans ≤ i) × (length cells ≡ ampleCells) × (length output ≡ length blank) × Sound p × (plans ≡ foundBy (answerIn (stateOf p)) i)
 
 abbrev μ-loop : tie.MeasureT-loop
-μ-loop times cells₀ p₀ plans₀ i₀ cells p plans i = times - i
+μ-loop p times cells₀ output₀ plans₀ i₀ cells output plans i = times - i
 
 pub solves-spec : {M : Type 1} → statement M
 solves-spec =
@@ -24,6 +25,7 @@ solves-spec =
     Inv-loop
     μ-loop
     (λ c. search (needs, counting))
+    (λ c. search needs)
     (λ c. search needs)
     (λ c κs. search needs)
     (λ c κs. search needs)

@@ -1,4 +1,4 @@
--- Each answer of solve, and of the read after it, is a case of the definition.
+-- Each answer of solve is a case of the definition.
 use Rattle.plan.proofs.Answers.{solving-laws}
 use borrow.Author.Needs.{needs}
 use Rattle.plan.proofs.listing.solve.Statement.{statement}
@@ -9,19 +9,14 @@ solve-spec =
     tie.close
     (tie.spec
     (λ c. search needs)
-    (λ c κs. search needs)
-    (λ c. search needs)
-    (λ c κs. search needs)
-    (λ c. search needs)
-    (λ c κs. search needs)
-    (λ c. search needs)
     (λ c. search needs)
     (λ c κs. search needs)
     (λ c. search needs)
     (λ c κs. search needs)
     (λ c. search needs)
     (λ c κs. search needs)
-    (λ c. search (needs, solving-laws))
+    (λ c. search needs)
+    (λ c κs. search needs)
     (λ c. search (needs, solving-laws))
     (λ c. search (needs, solving-laws))
     (λ c. search (needs, solving-laws)))

@@ -1,4 +1,4 @@
--- Nothing stands in the empty planner, so nothing is asked of a query, and no plan is kept.
+-- Nothing stands in the empty planner, so nothing is asked of a query.
 use Prim.Native.Nat.{ℕ}
 use mathlib.Core.Path.{_≡_, refl}
 use native.Mathlib.Omega.{arith}
@@ -11,4 +11,4 @@ empty-spec =
     tie.close
     (tie.spec
     (λ c κs. search needs)
-    (λ c. (refl, record { valid = λ f. absurd (let z : _≡_ {A = ℕ} 0 1 = cc in omega arith); short = omega arith })))
+    (λ c. (refl, record { valid = λ f. absurd (let z : _≡_ {A = ℕ} 0 1 = cc in omega arith) })))

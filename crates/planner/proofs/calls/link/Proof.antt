@@ -28,4 +28,4 @@ link-spec =
     (λ c κs. search needs)
     (λ c. (search (needs, linking), search needs))
     (λ c κs. (low c, fair c))
-    (λ c. (search (needs, linking), search (needs, linking, fair (c .before .before .before)))))
+    (λ c. (search (needs, linking), search (needs, linking, fair (c .before)))))
