@@ -3,6 +3,7 @@ pub mod Loading
 pub mod Linking
 pub mod Cells
 pub mod Again
+pub mod Admitted
 pub mod Solving
 pub mod Checking
 pub mod Worked

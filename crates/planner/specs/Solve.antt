@@ -2,6 +2,8 @@
 -- answers its cost, its length and the trials; or answers no route with the trials. The state stays. Refusals 20, 21, and 23 once a plan is
 -- found.
 use Prim.Native.Nat.{ℕ, _+_}
+use mathlib.Core.Path.{_≡_}
+use mathlib.Core.Logic.{_↔_}
 use mathlib.Core.Bool.{Bool, true, false, _&&_}
 use mathlib.Core.List.{List, _++_}
 use mathlib.Core.Option.{none, some}
@@ -60,6 +62,10 @@ hasRoom q (Cost.some c) bytes = leb (length (written _+_ q)) bytes
 abbrev pub solveAdmitted : State → (cells bytes : ℕ) → Bool
 solveAdmitted none cells bytes = false
 solveAdmitted (some q) cells bytes = leb (cellsNeeded q) cells && hasRoom q (cheapest _+_ q) bytes
+
+-- So it is exactly where it answers no refusal.
+abbrev pub AdmittedLaw : Type 0
+AdmittedLaw = (cells : ℕ) (out : List ℕ) (s : State) → (solveAdmitted s cells (length out) ≡ true) ↔ ((k : ℕ) → solve cells out s .answer ≡ refused k → ⊥)
 
 -- Solve with as many cells as it needs.
 abbrev pub needed : State → ℕ

@@ -10,5 +10,7 @@ load-spec =
     (λ c κs. search needs)
     (λ c. search needs)
     (λ c. search needs)
+    -- the file is refused
     (λ c. (search (needs, loading), search (needs, loading)))
+    -- the file is whole
     (λ c. (search (needs, loading), search (needs, loading))))

@@ -10,19 +10,28 @@ pub solve-spec : {M : Type 1} → statement M
 solve-spec =
     tie.close
     (tie.spec
+    -- 20
     (λ c. (search (needs, solving), refl))
+    -- 21
     (λ c. (search (needs, solving), refl))
+    -- the solver
     (λ c. search needs)
     (λ c κs. (search (needs, solving), (search (needs, solving), omega arith)))
+    -- it found no route
     (λ c. search needs)
+    -- it found a plan
     (λ c. search needs)
+    -- 23
     (λ c. search needs)
     (λ c. (search (needs, solving), search (needs, solving)))
+    -- the copy
     (λ c. search (needs, solving))
     (λ c. search (needs, solving))
     (λ c κs. search (needs, solving))
+    -- no route is answered
     (λ c. search needs)
     (λ c. (search (needs, solving), search (needs, solving)))
+    -- a plan is answered
     (λ c. search needs)
     (λ c. search needs)
     (λ c. (search (needs, solving), search (needs, solving))))
