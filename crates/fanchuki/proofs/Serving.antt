@@ -28,7 +28,7 @@ use Rattle.planner.specs.Solve.{found, noRoute, Solving, solvingOf, solved, sol
 use Rattle.planner.specs.Solve as Solve
 use Rattle.planner.specs.Contracts.{stateOf, doneOf, ofLoad, ofSolve}
 use Rattle.planner.proofs.Cells.{needed-enough, solve-enough}
-use Rattle.fanchuki.specs.Served.{served, serveSolve, serve}
+use Rattle.fanchuki.specs.Served.{served, onSolved, serve}
 
 -- A refusal is a number of a byte. Of two choices by one test: both are below a limit, so the one that is chosen is.
 picked-low : {A : Type 0} (number : A → ℕ) (t : Bool) {x y : A} → number x ≤ 255 → number y ≤ 255 → number (pick t x y) ≤ 255
@@ -51,25 +51,10 @@ unfolding solve
 solve-low n out none = omega arith
 solve-low n out (some q) = picked-low (λ (x : Solving). solveRefusal (x .answer)) (ltb n (cellsNeeded q)) (omega arith) (solved-low q (cheapest _+_ q) out)
 
-module _ (a : SolveAnswer) (new out : List ℕ) (s : State) (n : ℕ) (solving : solvingOf (ofSolve a) new ≡ solve n out s) where
-  pub solve-byte : (k : ℕ) → a ≡ SolveAnswer.Refused k → k ≤ 255
-  solve-byte k is = rw (← solving, is) at (solve-low n out s)
+pub solve-byte : (a : SolveAnswer) (new out : List ℕ) (s : State) (n : ℕ) → solvingOf (ofSolve a) new ≡ solve n out s → (k : ℕ) → a ≡ SolveAnswer.Refused k → k ≤ 255
+solve-byte a new out s n solving k is = rw (← solving, is) at (solve-low n out s)
 
-  -- It had as many cells as are needed.
-  module _ (enough : needed s ≤ n) where
-    pub solve-found : (c : Charge) (l t : ℕ) → a ≡ SolveAnswer.Found c l t → served l new ≡ serveSolve s out
-    unfolding serveSolve
-    solve-found c l t is = rw (← solve-enough n out s enough, ← solving, is)
-
-    pub solve-none : (t : ℕ) → a ≡ SolveAnswer.NoRoute t → served 0 new ≡ serveSolve s out
-    unfolding serveSolve
-    solve-none t is = rw (← solve-enough n out s enough, ← solving, is)
-
-    pub solve-refused : (k m : ℕ) → a ≡ SolveAnswer.Refused k → m ≡ 256 + k → served m new ≡ serveSolve s out
-    unfolding serveSolve
-    solve-refused k m is e = rw (← solve-enough n out s enough, ← solving, is, e)
-
--- A query that was loaded, on an empty planner, is solved; else the output stays.
+-- Load is the first.
 abbrev loadRefusal : Load.Answer → ℕ
 loadRefusal (loaded n m) = 0
 loadRefusal (Load.refused k) = k
@@ -82,18 +67,31 @@ load-low file s = go (decode file) (decode-refusals file)
     go (fields.refused k) h = omega (arith, h k refl)
     go (value q l) h = omega arith
 
+-- The call: load's answer, on an empty planner.
 module _ (a : LoadAnswer) (p first : Planner) (query : List ℕ) (empty : stateOf first ≡ none) (done : doneOf (ofLoad a) p ≡ load query (stateOf first)) where
-  pub load-goes : (n m r : ℕ) (new out : List ℕ) → a ≡ LoadAnswer.Loaded n m → served r new ≡ serveSolve (stateOf p) out → served r new ≡ serve query out
-  unfolding serve
-  load-goes n m r new out is e = rw (← empty, ← done, is) e
+  pub load-byte : (k : ℕ) → a ≡ LoadAnswer.Refused k → k ≤ 255
+  load-byte k is = rw (← done, is) at (load-low query (stateOf first))
 
   pub load-refused : (k r : ℕ) (out : List ℕ) → a ≡ LoadAnswer.Refused k → r ≡ 256 + k → served r out ≡ serve query out
   unfolding serve
   load-refused k r out is e = rw (← empty, ← done, is, e)
 
-  pub load-byte : (k : ℕ) → a ≡ LoadAnswer.Refused k → k ≤ 255
-  load-byte k is = rw (← done, is) at (load-low query (stateOf first))
+  -- Solve's, on the query that was loaded, with as many cells as are needed.
+  module _
+      (n m cells : ℕ) (b : SolveAnswer) (new out : List ℕ) (loads : a ≡ LoadAnswer.Loaded n m) (solving : solvingOf (ofSolve b) new ≡ solve cells out (stateOf p))
+      (enough : needed (stateOf p) ≤ cells)
+    where
+      by-solve : served (onSolved (ofSolve b)) new ≡ serve query out
+      unfolding serve
+      by-solve = rw (← empty, ← done, loads, ← solve-enough cells out (stateOf p) enough, ← solving)
 
-pub ruleset solving-laws = (solve-found, solve-none, solve-refused, solve-byte, needed-enough)
+      pub solve-found : (c : Charge) (l t : ℕ) → b ≡ SolveAnswer.Found c l t → served l new ≡ serve query out
+      solve-found c l t is = rw is at by-solve
 
-pub ruleset loading-laws = (load-goes, load-refused, load-byte)
+      pub solve-none : (t : ℕ) → b ≡ SolveAnswer.NoRoute t → served 0 new ≡ serve query out
+      solve-none t is = rw is at by-solve
+
+      pub solve-refused : (k r : ℕ) → b ≡ SolveAnswer.Refused k → r ≡ 256 + k → served r new ≡ serve query out
+      solve-refused k r is e = rw e (rw is at by-solve)
+
+pub ruleset serving = (load-byte, load-refused, solve-byte, solve-found, solve-none, solve-refused, needed-enough)

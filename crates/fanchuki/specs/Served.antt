@@ -25,13 +25,9 @@ onSolved (Solve.found c l t) = l
 onSolved (Solve.noRoute t) = 0
 onSolved (Solve.refused k) = refusal k
 
--- It has as many cells as it needs.
-unfoldable pub serveSolve : State → List ℕ → Served
-serveSolve s out = served (onSolved (Solve.solveNeeded out s .answer)) (Solve.solveNeeded out s .output)
-
--- A query that was loaded is solved; a refusal ends the call, and the output stays.
+-- A query that was loaded is solved, with as many cells as it needs; a refusal ends the call, and the output stays.
 abbrev pub onLoaded : Load.Answer → State → List ℕ → Served
-onLoaded (Load.loaded n m) s out = serveSolve s out
+onLoaded (Load.loaded n m) s out = served (onSolved (Solve.solveNeeded out s .answer)) (Solve.solveNeeded out s .output)
 onLoaded (Load.refused k) s out = served (refusal k) out
 
 -- The call: on an empty planner.

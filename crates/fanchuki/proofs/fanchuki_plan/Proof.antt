@@ -1,5 +1,5 @@
-use Rattle.fanchuki.proofs.Serving.{loading-laws}
 use borrow.Author.Needs.{needs}
+use Rattle.fanchuki.proofs.Serving.{serving}
 use Rattle.fanchuki.proofs.fanchuki_plan.Statement.{statement}
 use Rattle.fanchuki.proofs.fanchuki_plan.Tie as tie
 
@@ -10,9 +10,18 @@ fanchuki-plan-spec =
     (λ c κs. search needs)
     (λ c κs. search needs)
     (λ c. search needs)
+    (λ c κs. search (needs, serving))
+    (λ c. search (needs, serving))
+    (λ c. search needs)
+    (λ c. search needs)
     (λ c κs. search needs)
     (λ c. search needs)
-    (λ c κs. search (needs, loading-laws))
     (λ c. search needs)
-    (λ c. search (needs, loading-laws))
-    (λ c. search (needs, loading-laws)))
+    (λ c. search needs)
+    (λ c κs. search (needs, serving))
+    (λ c. search needs)
+    (λ c. search (needs, serving))
+    (λ c. search needs)
+    (λ c. search (needs, serving))
+    (λ c. search needs)
+    (λ c. search (needs, serving)))
