@@ -1,8 +1,10 @@
 -- The report server's call: on a planner of its own it loads and solves, in that order, from query bytes to output bytes.
 -- It returns the plan's length, 0 for no route, or 256 plus the refusal.
-use Prim.Native.Nat.{ℕ, _+_}
+use Prim.Native.Nat.{ℕ, _+_, _≤_, _<_}
 use mathlib.Core.List.{List}
 use mathlib.Core.Option.{none}
+use lib.ListN.{length}
+use Rattle.rules.specs.Allowed.{longestPlan}
 use Rattle.planner.specs.State.{State}
 use Rattle.planner.specs.Load as Load
 use Rattle.planner.specs.Solve as Solve
@@ -33,3 +35,14 @@ onLoaded (Load.refused k) s out = served (refusal k) out
 -- The call: on an empty planner.
 unfoldable pub serve : List ℕ → List ℕ → Served
 serve query out = onLoaded (Load.load query none .answer) (Load.load query none .next) out
+
+-- Which numbers it returns, for an output of so many bytes: none can be taken for another, and an output with room for the longest plan is
+-- never too short.
+pub data Number (bytes : ℕ) : ℕ → Type 0 where
+  plan : (l : ℕ) → 1 ≤ l → l ≤ longestPlan → Number bytes l
+  no-route : Number bytes 0
+  of-the-file : (k : ℕ) → 1 ≤ k → k ≤ 5 → Number bytes (refusal k)
+  short-output : bytes < longestPlan → Number bytes (refusal 23)
+
+abbrev pub EveryNumber : Type 0
+EveryNumber = (query out : List ℕ) → Number (length out) (serve query out .number)
