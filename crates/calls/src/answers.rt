@@ -30,22 +30,12 @@ pub(crate) fn of_link(a: LinkAnswer) -> bool {
     }
 }
 
-// Says whether the cells that must be unchanged are.
-fn say_cells(kept: bool) -> bool {
+// `cells OK` or `cells CHANGED`: whether what must be unchanged is.
+fn say_kept(what: &[u8], kept: bool) -> bool {
     if kept {
-        text(b"cells OK\n")
-    } else {
-        text(b"cells CHANGED\n")
+        return text(what) && text(b" OK\n");
     }
-}
-
-// Says whether the output is unchanged.
-fn say_output(kept: bool) -> bool {
-    if kept {
-        text(b"output OK\n")
-    } else {
-        text(b"output CHANGED\n")
-    }
+    text(what) && text(b" CHANGED\n")
 }
 
 // `solved 21 9 3 04..`: cost, length, trials and the whole output.
@@ -68,6 +58,13 @@ fn first_kept(refusal: u64) -> usize {
     if refusal == 23 { CELLS } else { 0 }
 }
 
+// Nothing was written to the output, and the cells from one on stay.
+fn say_unwritten(cells: &[u64; 8192], from: usize, n: usize, output: &[u8; 4096], m: usize) -> bool
+    requires { ⌜ (n ≤ 8192) × (m ≤ 4096) ⌝ }
+{
+    say_kept(b"cells", cells_kept(cells, from, n)) && say_kept(b"output", output_kept(output, m))
+}
+
 pub(crate) fn of_solve(
     a: SolveAnswer,
     cells: &[u64; 8192],
@@ -83,17 +80,14 @@ pub(crate) fn of_solve(
             length,
             trials,
         } => {
-            say_solved(cost.0, length, trials, output, m) && say_cells(cells_kept(cells, CELLS, n))
+            say_solved(cost.0, length, trials, output, m)
+                && say_kept(b"cells", cells_kept(cells, CELLS, n))
         }
         SolveAnswer::NoRoute { trials } => {
-            line(b"no-route ", trials)
-                && say_cells(cells_kept(cells, CELLS, n))
-                && say_output(output_kept(output, m))
+            line(b"no-route ", trials) && say_unwritten(cells, CELLS, n, output, m)
         }
         SolveAnswer::Refused(k) => {
-            line(b"refused ", k)
-                && say_cells(cells_kept(cells, first_kept(k), n))
-                && say_output(output_kept(output, m))
+            line(b"refused ", k) && say_unwritten(cells, first_kept(k), n, output, m)
         }
     }
 }

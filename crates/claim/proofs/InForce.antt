@@ -1,13 +1,12 @@
 -- Every planner that a list of calls gives is sound, and the query that stands in it is the query in force: by induction over the list.
 use Prim.Native.Nat.{ℕ}
 use mathlib.Core.Path.{_≡_, refl, ap, _∙_}
-use mathlib.Core.Bool.{Bool, true, false}
 use mathlib.Core.List.{List}
 use mathlib.Core.Option.{Option, none, some}
 use denote.Ref.{now}
 use Rattle.query.specs.declared.Query.{Query}
-use Rattle.query.specs.Choice.{pick}
 use Rattle.query.specs.Query.{sitesOf}
+use Rattle.query.proofs.Choice.{pick-both}
 use Rattle.decoder.specs.Fields.{Read, value}
 use Rattle.decoder.specs.Fields as fields
 use Rattle.decoder.specs.Decode.{decode}
@@ -36,17 +35,12 @@ load-query : (file : List ℕ) (s : State) → load file s .next ≡ afterLoad (
 unfolding load
 load-query file s = decoded-query (decode file) s
 
--- Of two choices by one test: what holds of both pairs holds of the two that are chosen.
-both-picked : {A : Type 0} (P : A → Option Query → Type 0) (t : Bool) {x y : A} {a b : Option Query} → P x a → P y b → P (pick t x y) (pick t a b)
-both-picked P true h k = h
-both-picked P false h k = k
-
 link-query : (l : Link) (s : State) → link l s .next ≡ afterLink l s
 unfolding link
 link-query l none = refl
 link-query l (some q) =
     let P : Done linking.Answer → Option Query → Type 0 = λ d a. d .next ≡ a in
-    both-picked P (sitesListed (sitesOf q) (l .sender) (l .receiver)) (both-picked P (termsInRange (l .terms)) refl refl) refl
+    pick-both P (sitesListed (sitesOf q) (l .sender) (l .receiver)) (pick-both P (termsInRange (l .terms)) refl refl) refl
 
 -- What a call leaves standing, by what its definition does.
 left-standing : {A : Type 0} {d e : Done A} → d ≡ e → d .next ≡ e .next

@@ -3,14 +3,13 @@ use Prim.Native.Nat.{ℕ, _+_, _≤_}
 use native.Mathlib.Omega.{arith}
 use mathlib.Core.Path.{_≡_, refl, sym, ap, subst, _∙_}
 use mathlib.Core.Logic.{_↔_}
-use mathlib.Core.Bool.{Bool, true, false}
+use mathlib.Core.Bool.{Bool, true, false, and-eq-true-iff}
 use mathlib.Core.List.{List, _++_}
 use mathlib.Core.Option.{none, some}
 use lib.ListN.{length, drop}
 use lib.Dec.{leb}
 use denote.Ref.{now}
-use borrow.Author.Tests.{leb-true, le-ltb, le-leb}
-use Rattle.relations.proofs.Leads.{both-true}
+use borrow.Author.Tests.{leb-true, le-leb}
 use Rattle.query.specs.declared.Query.{Query}
 use Rattle.query.specs.Choice.{pick}
 use Rattle.query.specs.Cost.{Cost}
@@ -25,8 +24,9 @@ use Rattle.rules.proofs.Combinations.{plus-combines}
 use Rattle.tables.proofs.Optimum.{no-route-law}
 use Rattle.planner.specs.declared.Planner.{Planner}
 use Rattle.planner.specs.State.{State}
-use Rattle.planner.specs.Solve.{Answer, noRoute, found, Solving, solvingOf, solve, solved, hasRoom, solveAdmitted}
+use Rattle.planner.specs.Solve.{Answer, noRoute, found, Solving, solvingOf, solved, hasRoom, solveAdmitted}
 use Rattle.planner.specs.Contracts.{stateOf, ofSolve, Sound}
+use Rattle.planner.proofs.Cells.{solve-is, writing-fits}
 use Rattle.claim.specs.Lists.{inForce}
 use Rattle.claim.specs.Claim.{NoPlan, Right, Demand3, Ample, EveryCall}
 use Rattle.claim.proofs.InForce.{sound, stands}
@@ -54,19 +54,14 @@ record Admitted (s : State) (cells bytes : ℕ) : Type 0 where
 admitted : (s : State) (cells bytes : ℕ) → solveAdmitted s cells bytes ≡ true → Admitted s cells bytes
 admitted none cells bytes e = absurd (let z : _≡_ {A = ℕ} 0 1 = cc in omega arith)
 admitted (some q) cells bytes e =
-    let h = both-true (leb (cellsNeeded q) cells) (hasRoom q (cheapest _+_ q) bytes) e in
+    let h = and-eq-true-iff (leb (cellsNeeded q) cells) (hasRoom q (cheapest _+_ q) bytes) .0 e in
     record { query = q; in-force = refl; enough = leb-true (cellsNeeded q) cells (h .0); room = h .1 }
-
--- Then it comes to what the query costs.
-solve-is : (s : State) (q : Query) (n : ℕ) (out : List ℕ) → s ≡ some q → cellsNeeded q ≤ n → solve n out s ≡ solved q (cheapest _+_ q) out
-unfolding solve
-solve-is s q n out e h = rw (e, le-ltb n (cellsNeeded q) h)
 
 -- A plan that is found, and has room, is written.
 written-is :
     (q : Query) (c : ℕ) (out : List ℕ) → hasRoom q (Cost.some c) (length out) ≡ true →
     solved q (Cost.some c) out ≡ (let plan = written _+_ q in solvingOf (found c (length plan) (trials q)) (plan ++ drop (length plan) out))
-written-is q c out room = rw (le-ltb (length out) (length (written _+_ q)) (leb-true (length (written _+_ q)) (length out) room))
+written-is q c out room = writing-fits c (trials q) (written _+_ q) out (leb-true (length (written _+_ q)) (length out) room)
 
 module _ (q : Query) (valid : Valid q) (a : Answer) (before after : List ℕ) where
   -- What solve answers, by what the query costs, is right.

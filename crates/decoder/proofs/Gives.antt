@@ -3,12 +3,12 @@
 use Prim.Native.Nat.{ℕ, zero, suc, _≤_}
 use native.Mathlib.Omega.{arith}
 use mathlib.Core.Path.{_≡_, refl}
-use mathlib.Core.Bool.{Bool, true, false, _&&_, and-eq-true-iff}
+use mathlib.Core.Bool.{_&&_, and-eq-true-iff}
 use mathlib.Core.List.{List}
 use lib.ListN.{length, drop}
 use lib.Dec.{ltb, leb}
 use borrow.Author.Tests.{leb-true}
-use Rattle.query.specs.Choice.{pick}
+use Rattle.query.proofs.Choice.{pick-all}
 use Rattle.decoder.specs.Fields.{Read, refused, value, andThen, number, field, items, storing, section}
 
 abbrev pub Gives : {A : Type 0} → (A → List ℕ → Type 0) → Read A → Type 0
@@ -30,11 +30,6 @@ gives-then P Q (value a r) next h f = f a r h
 pub gives-so : {A : Type 0} (P Q : A → List ℕ → Type 0) (x : Read A) → Gives P x → ((a : A) (r : List ℕ) → P a r → Q a r) → Gives Q x
 gives-so P Q (refused k) h f = h
 gives-so P Q (value a r) h f = f a r h
-
--- What holds of both of two values holds of the one picked.
-pub pick-all : {A : Type 0} (P : A → Type 0) (b : Bool) (x y : A) → (b ≡ true → P x) → (b ≡ false → P y) → P (pick b x y)
-pick-all P true x y f g = f refl
-pick-all P false x y f g = g refl
 
 -- Items that each keep P.
 pub gives-items :

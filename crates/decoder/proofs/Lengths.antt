@@ -9,9 +9,10 @@ use mathlib.Core.List.{List}
 use lib.ListN.{length, length-drop}
 use lib.Dec.{ltb, leb}
 use borrow.Author.Tests.{ltb-false}
+use Rattle.query.proofs.Choice.{pick-all}
 use Rattle.decoder.specs.Fields.{Read, refused, value, andThen, number, field, items, storing, section}
 use Rattle.decoder.specs.Length.{sectionLength}
-use Rattle.decoder.proofs.Gives.{Gives, gives-then, gives-so, gives-items, pick-all}
+use Rattle.decoder.proofs.Gives.{Gives, gives-then, gives-so, gives-items}
 
 -- Every reading by it takes as many bytes as its value says: a number for each value.
 abbrev pub Takes : {T : Type 0} → (T → ℕ) → (List ℕ → Read T) → Type 0

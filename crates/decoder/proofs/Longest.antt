@@ -24,9 +24,10 @@ use Rattle.query.specs.Zeros.{noLines}
 use Rattle.query.specs.Terms.{withLine}
 use Rattle.decoder.specs.Decode.{withSize, sized, sizesSection, line, sender, linesSection, deliverySection, decode}
 use Rattle.query.specs.Query.{Valid, relationsOf, sitesOf}
+use Rattle.query.proofs.Choice.{pick-all}
 use Rattle.decoder.specs.Length.{sectionLength, fileLength, longestFile}
 use Rattle.decoder.specs.Theorems.{DecodeLength, LongestFile}
-use Rattle.decoder.proofs.Gives.{Gives, gives-so, pick-all}
+use Rattle.decoder.proofs.Gives.{Gives, gives-so}
 use Rattle.decoder.proofs.Lengths.{Takes, field-takes, field-next, takes-then, items-take, storing-takes, section-takes}
 use Rattle.decoder.proofs.Valid.{decode-valid}
 

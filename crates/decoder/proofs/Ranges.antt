@@ -17,10 +17,11 @@ use Rattle.query.specs.Terms.{withLine}
 use Rattle.query.specs.Zeros.{noSites, noRelations, noJoins, noLines}
 use Rattle.query.proofs.Limits.{set-up-to, zeros-up-to}
 use Rattle.query.proofs.Linked.{Fair, LinesIn, with-line}
+use Rattle.query.proofs.Choice.{pick-all}
 use Rattle.decoder.specs.Fields.{field, amountUpTo}
 use Rattle.decoder.specs.Decode.{terms, Two, two, withSite, sitesSection, withRelation, relationsSection}
 use Rattle.decoder.specs.Decode.{withJoin, joinsSection, withSize, sized, sizesSection, line, sender, linesSection, deliverySection}
-use Rattle.decoder.proofs.Gives.{Has, Holds, gives-so, gives-items, gives-storing, gives-section, pick-all, field-held, field-then}
+use Rattle.decoder.proofs.Gives.{Has, Holds, gives-so, gives-items, gives-storing, gives-section, field-held, field-then}
 
 pub terms-held : Holds Fair 9 terms
 unfolding terms

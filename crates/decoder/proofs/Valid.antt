@@ -14,8 +14,9 @@ use Rattle.decoder.specs.Fields.{Read, refused, value}
 use Rattle.decoder.specs.Decode.{sitesSection, relationsSection, joinsSection, sizesSection, linesSection, deliverySection, decode}
 use Rattle.decoder.specs.Code.{decodedOf}
 use Rattle.query.specs.Query.{Valid, home}
+use Rattle.query.proofs.Choice.{pick-all}
 use Rattle.decoder.specs.Theorems.{DecodeValid}
-use Rattle.decoder.proofs.Gives.{Has, gives-then, pick-all}
+use Rattle.decoder.proofs.Gives.{Has, gives-then}
 use Rattle.decoder.proofs.Ranges.{sites-in, relations-in, joins-in, sizes-in, lines-in, delivery-in}
 
 pub file-in : (file : List ℕ) → Has Valid (decode file)

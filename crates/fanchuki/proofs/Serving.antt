@@ -2,15 +2,14 @@
 use Prim.Native.Nat.{ℕ, _+_, _≤_}
 use native.Mathlib.Omega.{arith}
 use mathlib.Core.Path.{_≡_, refl}
-use mathlib.Core.Bool.{Bool, true, false}
 use mathlib.Core.List.{List}
 use mathlib.Core.Option.{none, some}
 use lib.ListN.{length}
 use lib.Dec.{ltb}
 use Rattle.query.specs.declared.Query.{Query}
 use Rattle.query.specs.declared.Charge.{Charge}
-use Rattle.query.specs.Choice.{pick}
 use Rattle.query.specs.Cost.{Cost}
+use Rattle.query.proofs.Choice.{pick-all}
 use Rattle.decoder.specs.Fields.{Read, value}
 use Rattle.decoder.specs.Fields as fields
 use Rattle.decoder.specs.Decode.{decode}
@@ -30,26 +29,23 @@ use Rattle.planner.specs.Contracts.{stateOf, doneOf, ofLoad, ofSolve}
 use Rattle.planner.proofs.Cells.{needed-enough, solve-enough}
 use Rattle.fanchuki.specs.Served.{served, onSolved, serve}
 
--- A refusal is a number of a byte. Of two choices by one test: both are below a limit, so the one that is chosen is.
-picked-low : {A : Type 0} (number : A → ℕ) (t : Bool) {x y : A} → number x ≤ 255 → number y ≤ 255 → number (pick t x y) ≤ 255
-picked-low number true h k = h
-picked-low number false h k = k
-
--- Solve is the last call. The number of its refusal, 0 where there is none.
+-- A refusal is a number of a byte. Solve is the last call: the number of its refusal, 0 where there is none.
 abbrev solveRefusal : Solve.Answer → ℕ
 solveRefusal (found c l t) = 0
 solveRefusal (noRoute t) = 0
 solveRefusal (Solve.refused k) = k
 
-solved-low : (q : Query) (c : Cost) (out : List ℕ) → solveRefusal (solved q c out .answer) ≤ 255
-solved-low q Cost.none out = omega arith
-solved-low q (Cost.some c) out =
-    picked-low (λ (x : Solving). solveRefusal (x .answer)) (ltb (length out) (length (written _+_ q))) (omega arith) (omega arith)
+abbrev Low : Solving → Type 0
+Low x = solveRefusal (x .answer) ≤ 255
 
-solve-low : (n : ℕ) (out : List ℕ) (s : State) → solveRefusal (solve n out s .answer) ≤ 255
+solved-low : (q : Query) (c : Cost) (out : List ℕ) → Low (solved q c out)
+solved-low q Cost.none out = omega arith
+solved-low q (Cost.some c) out = pick-all Low (ltb (length out) (length (written _+_ q))) _ _ (λ e. omega arith) (λ e. omega arith)
+
+solve-low : (n : ℕ) (out : List ℕ) (s : State) → Low (solve n out s)
 unfolding solve
 solve-low n out none = omega arith
-solve-low n out (some q) = picked-low (λ (x : Solving). solveRefusal (x .answer)) (ltb n (cellsNeeded q)) (omega arith) (solved-low q (cheapest _+_ q) out)
+solve-low n out (some q) = pick-all Low (ltb n (cellsNeeded q)) _ _ (λ e. omega arith) (λ e. solved-low q (cheapest _+_ q) out)
 
 pub solve-byte : (a : SolveAnswer) (new out : List ℕ) (s : State) (n : ℕ) → solvingOf (ofSolve a) new ≡ solve n out s → (k : ℕ) → a ≡ SolveAnswer.Refused k → k ≤ 255
 solve-byte a new out s n solving k is = rw (← solving, is) at (solve-low n out s)

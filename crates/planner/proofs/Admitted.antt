@@ -12,6 +12,7 @@ use borrow.Author.Tests.{ltb-true, ltb-false, le-leb, lt-leb}
 use Rattle.query.specs.declared.Query.{Query}
 use Rattle.query.specs.Choice.{pick}
 use Rattle.query.specs.Cost.{Cost}
+use Rattle.query.proofs.Choice.{pick-all}
 use Rattle.tables.specs.Tables.{cheapest}
 use Rattle.tables.specs.Written.{written}
 use Rattle.tables.specs.Work.{cellsNeeded}
@@ -24,13 +25,11 @@ NotRefused a = (k : ℕ) → a ≡ refused k → ⊥
 tested :
     (n m k : ℕ) (out : List ℕ) (x : Solving) (a : Bool) → (leb m n ≡ true → (a ≡ true) ↔ NotRefused (x .answer)) → (leb m n ≡ false → a ≡ false) →
     (a ≡ true) ↔ NotRefused ((pick (ltb n m) (solvingOf (refused k) out) x) .answer)
-tested n m k out x a goes-on refuses = go (ltb n m) refl
-  where
-    go : (t : Bool) → ltb n m ≡ t → (a ≡ true) ↔ NotRefused ((pick t (solvingOf (refused k) out) x) .answer)
-    go true e =
-        let f = refuses (lt-leb m n (ltb-true n m e)) in
-        ((λ h. absurd (let z : _≡_ {A = ℕ} 0 1 = cc in omega arith)), λ h. absurd (h k refl))
-    go false e = goes-on (le-leb m n (ltb-false n m e))
+tested n m k out x a goes-on refuses =
+    pick-all (λ (y : Solving). (a ≡ true) ↔ NotRefused (y .answer)) (ltb n m) _ x
+    (λ e. let f = refuses (lt-leb m n (ltb-true n m e)) in
+    ((λ h. absurd (let z : _≡_ {A = ℕ} 0 1 = cc in omega arith)), λ h. absurd (h k refl)))
+    (λ e. goes-on (le-leb m n (ltb-false n m e)))
 
 solved-law : (q : Query) (c : Cost) (out : List ℕ) → (hasRoom q c (length out) ≡ true) ↔ NotRefused (solved q c out .answer)
 solved-law q Cost.none out = ((λ h k e. absurd (let z : _≡_ {A = ℕ} 0 1 = cc in omega arith)), λ h. refl)

@@ -2,28 +2,25 @@
 -- same output answers the same.
 use Prim.Native.Nat.{ℕ, _+_}
 use mathlib.Core.Path.{_≡_, refl}
-use mathlib.Core.Bool.{Bool, true, false}
 use mathlib.Core.List.{List}
 use mathlib.Core.Option.{none, some}
 use lib.ListN.{length}
 use lib.Dec.{ltb}
 use Rattle.query.specs.declared.Query.{Query}
-use Rattle.query.specs.Choice.{pick}
 use Rattle.query.specs.Cost.{Cost}
+use Rattle.query.proofs.Choice.{pick-both}
 use Rattle.tables.specs.Tables.{cheapest, trials}
 use Rattle.tables.specs.Written.{written}
 use Rattle.tables.specs.Work.{cellsNeeded}
 use Rattle.planner.specs.State.{State}
 use Rattle.planner.specs.Solve.{Solving, writing, solved, solve}
 
--- Either way of a test answers the same.
-picked-answer : (t : Bool) (a b c d : Solving) → a .answer ≡ c .answer → b .answer ≡ d .answer → (pick t a b) .answer ≡ (pick t c d) .answer
-picked-answer true a b c d h k = h
-picked-answer false a b c d h k = k
+abbrev SameAnswer : Solving → Solving → Type 0
+SameAnswer x y = x .answer ≡ y .answer
 
 module _ (out other : List ℕ) (same : length out ≡ length other) where
   writing-again : (c t : ℕ) (plan : List ℕ) → writing c t plan out .answer ≡ writing c t plan other .answer
-  writing-again c t plan = rw same (picked-answer (ltb (length other) (length plan)) _ _ _ _ refl refl)
+  writing-again c t plan = rw same (pick-both SameAnswer (ltb (length other) (length plan)) refl refl)
 
   solved-again : (q : Query) (c : Cost) → solved q c out .answer ≡ solved q c other .answer
   solved-again q Cost.none = refl
@@ -32,4 +29,4 @@ module _ (out other : List ℕ) (same : length out ≡ length other) where
   pub solve-again : (n : ℕ) (s : State) → solve n out s .answer ≡ solve n other s .answer
   unfolding solve
   solve-again n none = refl
-  solve-again n (some q) = picked-answer (ltb n (cellsNeeded q)) _ _ _ _ refl (solved-again q (cheapest _+_ q))
+  solve-again n (some q) = pick-both SameAnswer (ltb n (cellsNeeded q)) refl (solved-again q (cheapest _+_ q))

@@ -6,7 +6,7 @@ use mathlib.Core.Bool.{true, false}
 use mathlib.Core.List.{List, _++_}
 use lib.ListN.{length, take, drop}
 use lib.Seq.{length-take-le, take-append-seam, take-length}
-use borrow.Author.Tests.{lt-ltb, le-ltb, not-true, not-false}
+use borrow.Author.Tests.{lt-ltb, not-true, not-false}
 use Rattle.query.specs.declared.Query.{Query}
 use Rattle.query.specs.declared.Charge.{Charge}
 use Rattle.query.specs.Cost.{Cost, none, some}
@@ -21,10 +21,10 @@ use Rattle.solver.specs.Solution.{solutionOf, planAfter}
 use Rattle.tables.proofs.Upper.{written-most}
 use Rattle.rules.proofs.Combinations.{plus-combines}
 use Rattle.planner.specs.declared.Planner.{Planner}
-use Rattle.planner.specs.Solve.{found, noRoute, refused, solvingOf, solve}
+use Rattle.planner.specs.Solve.{found, noRoute, refused, solvingOf, solved, solve}
 use Rattle.planner.specs.Contracts.{stateOf}
 use Rattle.planner.proofs.Standing.{standing-valid}
-use Rattle.planner.proofs.Cells.{cells-few, cells-enough, cells-later}
+use Rattle.planner.proofs.Cells.{cells-few, cells-enough, cells-later, solve-is, writing-fits}
 
 module _ (p : Planner) (n : ℕ) (out : List ℕ) where
   pub solve-nothing : p .loaded ≡ false → solvingOf (refused 20) out ≡ solve n out (stateOf p)
@@ -65,11 +65,13 @@ module _
     (p : Planner) (s : Solution) (n : ℕ) (out : List ℕ) (loaded : p .loaded ≡ true) (enough : cellsNeeded (p .query) ≤ n)
     (answer : s ≡ solutionOf (p .query) (cheapest _+_ (p .query)))
   where
+    goes : solve n out (stateOf p) ≡ solved (p .query) (cheapest _+_ (p .query)) out
+    goes = solve-is (stateOf p) (p .query) n out (rw loaded) enough
+
     pub solve-no-route : (t : ℕ) → s ≡ NoRoute t → solvingOf (noRoute t) out ≡ solve n out (stateOf p)
-    unfolding solve
     solve-no-route t is =
         let same = sym answer ∙ is in
-        rw (loaded, le-ltb n (cellsNeeded (p .query)) enough, is-none (p .query) t (cheapest _+_ (p .query)) same, none-trials (p .query) t (cheapest _+_ (p .query)) same)
+        rw (goes, is-none (p .query) t (cheapest _+_ (p .query)) same, none-trials (p .query) t (cheapest _+_ (p .query)) same)
 
     -- A plan is found.
     module _ (c : Charge) (l t : ℕ) (is : s ≡ Found c l t) where
@@ -83,8 +85,7 @@ module _
       long = found-length (p .query) c l t (cheapest _+_ (p .query)) same
 
       pub solve-short : length out < l → solvingOf (refused 23) out ≡ solve n out (stateOf p)
-      unfolding solve
-      solve-short h = rw (loaded, le-ltb n (cellsNeeded (p .query)) enough, costs, ← long, lt-ltb (length out) l h)
+      solve-short h = rw (goes, costs, ← long, lt-ltb (length out) l h)
 
       -- Its bytes are the front of the solver's array, which is copied to the front of the output.
       front : (plan old : List ℕ) → plan ≡ planAfter (cheapest _+_ (p .query)) (written _+_ (p .query)) old → take l plan ≡ written _+_ (p .query)
@@ -93,16 +94,14 @@ module _
       pub solve-found :
           (plan old new : List ℕ) → plan ≡ planAfter (cheapest _+_ (p .query)) (written _+_ (p .query)) old → l ≤ length out →
           (let k = take l plan in new ≡ take (length k) k ++ drop (length k) out) → solvingOf (found (c .0) l t) new ≡ solve n out (stateOf p)
-      unfolding solve
       solve-found plan old new e h w =
           rw (
-            put-front (take l plan) (written _+_ (p .query)) out new (front plan old e) w,
-            loaded,
-            le-ltb n (cellsNeeded (p .query)) enough,
+            goes,
             costs,
+            writing-fits (c .0) (trials (p .query)) (written _+_ (p .query)) out (rw long at h),
+            put-front (take l plan) (written _+_ (p .query)) out new (front plan old e) w,
             found-trials (p .query) c l t (cheapest _+_ (p .query)) same,
-            ← long,
-            le-ltb (length out) l h,
+            long,
           )
 
 -- A plan that was found is no longer than a plan may be, so that it lies whole in the array, and fits where there is room for it.

@@ -1,3 +1,4 @@
+pub mod Choice
 pub mod Limits
 pub mod Prices
 pub mod Charges
