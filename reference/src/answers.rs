@@ -3,7 +3,7 @@
 use crate::hex::hex;
 use crate::limits::WORK_CELLS;
 use crate::method::Method;
-use crate::planner::{Planner, Solved};
+use crate::planner::{Loaded, Planner, Solved};
 use crate::refusal::Refusal;
 use crate::script::Call;
 
@@ -21,10 +21,7 @@ impl Call {
     /// The lines that the call prints.
     pub fn run(&self, planner: &mut Planner) -> Vec<String> {
         match self {
-            Call::Load { file } => vec![match planner.load(file) {
-                Ok(loaded) => format!("load {} {}", loaded.relations, loaded.subqueries),
-                Err(refusal) => refused(refusal),
-            }],
+            Call::Load { form, file } => vec![load_line(planner.load(file, *form))],
             Call::Link(link) => vec![match planner.link(*link) {
                 Ok(()) => "link".to_string(),
                 Err(refusal) => refused(refusal),
@@ -37,6 +34,14 @@ impl Call {
                 Err(refusal) => refused(refusal),
             }],
         }
+    }
+}
+
+/// The line of a load of either kind.
+pub fn load_line(answer: Result<Loaded, Refusal>) -> String {
+    match answer {
+        Ok(loaded) => format!("load {} {}", loaded.relations, loaded.subqueries),
+        Err(refusal) => refused(refusal),
     }
 }
 

@@ -4,6 +4,7 @@ use crate::limits::WORK_CELLS;
 use crate::method::Method;
 use crate::planner::{Planner, Solved};
 use crate::refusal::Refusal;
+use crate::stated::Form;
 
 /// The plan's length, 0 for no route, or 256 plus the refusal. Output bytes behind
 /// the plan stay; all of them stay where no plan is written.
@@ -17,6 +18,6 @@ pub fn fanchuki_plan(query: &[u8], output: &mut [u8]) -> u64 {
 
 fn load_and_solve(query: &[u8], output: &mut [u8]) -> Result<Solved, Refusal> {
     let mut planner = Planner::empty(Method::Rules);
-    planner.load(query)?;
+    planner.load(query, Form::Sizes)?;
     planner.solve(&mut vec![0; WORK_CELLS], output)
 }

@@ -1,13 +1,18 @@
-//! From the bytes of a file to the query, or the first refusal in reading order.
+//! From the bytes of a file of either form to the query that it states, or the first refusal
+//! in reading order.
 
-use crate::limits::{MOST_FIXED, MOST_RATE, MOST_RELATIONS, MOST_SITES, MOST_SIZE};
+use crate::limits::{
+    MOST_DIVISOR, MOST_FIXED, MOST_RATE, MOST_RELATIONS, MOST_ROWS, MOST_SITES, MOST_SIZE,
+};
 use crate::query::{Line, Query, Relation, Site};
 use crate::refusal::Refusal;
+use crate::rows::RowCounts;
 use crate::sets;
+use crate::stated::{Form, Stated};
 use crate::tree::{self, Join};
 use crate::units::{Bytes, Charge, Rate};
 
-pub fn decode(file: &[u8]) -> Result<Query, Refusal> {
+pub fn decode(file: &[u8], form: Form) -> Result<Stated, Refusal> {
     let mut reader = Reader { rest: file };
 
     let s = reader.count(1, 1, MOST_SITES)?;
@@ -22,9 +27,13 @@ pub fn decode(file: &[u8]) -> Result<Query, Refusal> {
         return Err(Refusal::NotReached);
     }
 
-    let expected = tree::subqueries(&joins, n).len();
-    let n_sizes = reader.count(2, expected, expected)?;
-    let sizes = reader.each(n_sizes, |reader| reader.amount(MOST_SIZE).map(Bytes))?;
+    let (sizes, counts) = match form {
+        Form::Sizes => (reader.sizes(tree::subqueries(&joins, n).len())?, None),
+        Form::Rows => {
+            let counts = reader.row_counts(n)?;
+            (counts.sizes(&joins), Some(counts))
+        }
+    };
 
     let n_lines = reader.count(1, s * (s - 1), s * (s - 1))?;
     let lines = reader.each(n_lines, Reader::line)?;
@@ -35,7 +44,8 @@ pub fn decode(file: &[u8]) -> Result<Query, Refusal> {
     if !reader.rest.is_empty() {
         return Err(Refusal::BytesFollow);
     }
-    Ok(Query::new(sites, relations, joins, sizes, lines, delivery))
+    let query = Query::new(sites, relations, joins, sizes, lines, delivery);
+    Ok(Stated { query, counts })
 }
 
 /// The part of the file not yet read.
@@ -62,24 +72,24 @@ impl Reader<'_> {
         Ok(count)
     }
 
-    fn up_to(&mut self, width: usize, most: u64) -> Result<u64, Refusal> {
+    fn within(&mut self, width: usize, least: u64, most: u64) -> Result<u64, Refusal> {
         let value = self.field(width)?;
-        if value > most {
+        if value < least || value > most {
             return Err(Refusal::OutOfRange);
         }
         Ok(value)
     }
 
     fn number(&mut self, width: usize, most: usize) -> Result<usize, Refusal> {
-        Ok(self.up_to(width, most as u64)? as usize)
+        Ok(self.within(width, 0, most as u64)? as usize)
     }
 
     fn flag(&mut self) -> Result<bool, Refusal> {
-        Ok(self.up_to(1, 1)? == 1)
+        Ok(self.within(1, 0, 1)? == 1)
     }
 
     fn amount(&mut self, most: u64) -> Result<u64, Refusal> {
-        self.up_to(4, most)
+        self.within(4, 0, most)
     }
 
     fn each<T>(
@@ -107,6 +117,19 @@ impl Reader<'_> {
         let first = self.number(1, relations - 1)?;
         let second = self.number(1, relations - 1)?;
         Ok(Join { first, second })
+    }
+
+    fn sizes(&mut self, subqueries: usize) -> Result<Vec<Bytes>, Refusal> {
+        let count = self.count(2, subqueries, subqueries)?;
+        self.each(count, |reader| reader.amount(MOST_SIZE).map(Bytes))
+    }
+
+    fn row_counts(&mut self, n: usize) -> Result<RowCounts, Refusal> {
+        let n_rows = self.count(1, n, n)?;
+        let rows = self.each(n_rows, |reader| reader.within(4, 1, MOST_ROWS))?;
+        let n_divisors = self.count(1, n - 1, n - 1)?;
+        let divisors = self.each(n_divisors, |reader| reader.within(4, 1, MOST_DIVISOR))?;
+        Ok(RowCounts { rows, divisors })
     }
 
     fn line(&mut self) -> Result<Line, Refusal> {

@@ -1,16 +1,18 @@
-//! From a query to the bytes of its file, with a map of the fields for those who
-//! damage files.
+//! From a query to the bytes of its file in either form, with a map of the fields for those
+//! who damage files.
 
-use crate::limits::{MOST_FIXED, MOST_RATE, MOST_SIZE};
+use crate::limits::{MOST_DIVISOR, MOST_FIXED, MOST_RATE, MOST_ROWS, MOST_SIZE};
 use crate::query::Query;
+use crate::rows::RowCounts;
+use crate::stated::Stated;
 
 /// What a field says.
 #[derive(Clone, Copy, Debug, PartialEq, Eq)]
 pub enum Meaning {
     /// A section's count.
     Count,
-    /// A value from 0 to this limit.
-    UpTo(u64),
+    /// A value between these limits.
+    Within { least: u64, most: u64 },
 }
 
 /// Where a field stands in the file.
@@ -34,12 +36,23 @@ impl Field {
     }
 }
 
+/// The ordinary file of the query.
 pub fn encode(query: &Query) -> Vec<u8> {
-    encode_with_fields(query).0
+    write(query, None).file
+}
+
+/// The file of the form in which the query is stated.
+pub fn encode_stated(stated: &Stated) -> Vec<u8> {
+    encode_with_fields(stated).0
 }
 
 /// The file and all its fields in reading order.
-pub fn encode_with_fields(query: &Query) -> (Vec<u8>, Vec<Field>) {
+pub fn encode_with_fields(stated: &Stated) -> (Vec<u8>, Vec<Field>) {
+    let writer = write(&stated.query, stated.counts.as_ref());
+    (writer.file, writer.fields)
+}
+
+fn write(query: &Query, counts: Option<&RowCounts>) -> Writer {
     let mut writer = Writer { file: Vec::new(), fields: Vec::new() };
     let last_site = query.sites.len() as u64 - 1;
     let last_relation = query.relations.len() as u64 - 1;
@@ -60,9 +73,9 @@ pub fn encode_with_fields(query: &Query) -> (Vec<u8>, Vec<Field>) {
         writer.value(1, join.first as u64, last_relation);
         writer.value(1, join.second as u64, last_relation);
     }
-    writer.count(2, query.sizes.len());
-    for size in &query.sizes {
-        writer.value(4, size.0, MOST_SIZE);
+    match counts {
+        None => writer.sizes(query),
+        Some(counts) => writer.row_counts(counts),
     }
     writer.count(1, query.lines.len());
     for line in &query.lines {
@@ -72,7 +85,7 @@ pub fn encode_with_fields(query: &Query) -> (Vec<u8>, Vec<Field>) {
     }
     writer.count(1, 1);
     writer.value(1, query.delivery as u64, last_site);
-    (writer.file, writer.fields)
+    writer
 }
 
 struct Writer {
@@ -85,8 +98,24 @@ impl Writer {
         self.field(width, count as u64, Meaning::Count);
     }
 
-    fn value(&mut self, width: usize, value: u64, limit: u64) {
-        self.field(width, value, Meaning::UpTo(limit));
+    fn value(&mut self, width: usize, value: u64, most: u64) {
+        self.field(width, value, Meaning::Within { least: 0, most });
+    }
+
+    fn sizes(&mut self, query: &Query) {
+        self.count(2, query.sizes.len());
+        for size in &query.sizes {
+            self.value(4, size.0, MOST_SIZE);
+        }
+    }
+
+    fn row_counts(&mut self, counts: &RowCounts) {
+        for (values, most) in [(&counts.rows, MOST_ROWS), (&counts.divisors, MOST_DIVISOR)] {
+            self.count(1, values.len());
+            for &value in values {
+                self.field(4, value, Meaning::Within { least: 1, most });
+            }
+        }
     }
 
     fn field(&mut self, width: usize, value: u64, meaning: Meaning) {

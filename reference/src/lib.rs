@@ -2,8 +2,9 @@
 //!
 //! Read in this order: `query` and `prices` (what is planned), `rules` (the plan
 //! rules), `exhaustive` (the cheapest allowed plan by searching those rules),
-//! `tables` (the two tables), `planner` (the calls). `generate` makes queries,
-//! files, plans and call lists; `compare` holds built programs to the model.
+//! `tables` (the two tables), `rows` (sizes from row counts), `planner` (the calls).
+//! `generate` makes queries, files, plans and call lists; `compare` holds built programs
+//! to the model.
 
 pub mod answers;
 pub mod c_call;
@@ -20,16 +21,20 @@ pub mod method;
 pub mod older;
 pub mod pinned;
 pub mod pinned_calls;
+pub mod pinned_row_calls;
+pub mod pinned_rows;
 pub mod pinned_solves;
 pub mod planner;
 pub mod prices;
 pub mod query;
 pub mod random;
 pub mod refusal;
+pub mod rows;
 pub mod rules;
 pub mod script;
 pub mod sets;
 pub mod solve;
+pub mod stated;
 pub mod step;
 pub mod tables;
 pub mod text;

@@ -3,6 +3,9 @@
 pub const MOST_SITES: usize = 8;
 pub const MOST_RELATIONS: usize = 9;
 pub const MOST_SIZE: u64 = 1_000_000_000;
+/// Rows of a relation and divisors of a join are at least 1.
+pub const MOST_ROWS: u64 = 1_000_000;
+pub const MOST_DIVISOR: u64 = 1_000_000;
 pub const MOST_FIXED: u64 = 1_000_000;
 pub const MOST_RATE: u64 = 1_000;
 /// The bytes of a full parcel.

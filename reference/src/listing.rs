@@ -5,11 +5,12 @@ use std::fmt::Write;
 use crate::decode;
 use crate::method::Method;
 use crate::solve;
+use crate::stated::Form;
 use crate::step::Step;
 
 pub fn listing(file: &[u8], method: Method) -> String {
-    let query = match decode::decode(file) {
-        Ok(query) => query,
+    let query = match decode::decode(file, Form::Sizes) {
+        Ok(stated) => stated.query,
         Err(refusal) => return format!("refused {}\n", refusal.number()),
     };
     let trials = solve::trials(&query);

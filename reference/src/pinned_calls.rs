@@ -8,6 +8,7 @@ use crate::pinned;
 use crate::planner::Link;
 use crate::query::{Line, Query, Relation, Site};
 use crate::script::Call;
+use crate::stated::Form;
 use crate::step::{self, Step};
 use crate::units::{Bytes, Charge, Rate};
 
@@ -28,7 +29,12 @@ pub fn lists() -> Vec<Vec<Call>> {
 pub const SOLVE: Call = Call::Solve { cells: WORK_CELLS as u32, output: LONGEST_PLAN as u32 };
 
 pub fn load(query: &Query) -> Call {
-    Call::Load { file: encode(query) }
+    load_file(encode(query))
+}
+
+/// A load of bytes that need not be a file.
+pub fn load_file(file: Vec<u8>) -> Call {
+    Call::Load { form: Form::Sizes, file }
 }
 
 pub fn link(sender: u64, receiver: u64, open: u64, fixed: u64, rate: u64) -> Call {
@@ -53,7 +59,7 @@ fn nothing_loaded() -> Vec<Call> {
         check(&[]),
         check(&[1, 1, 0]),
         link(0, 0, 2, u64::MAX, u64::MAX),
-        Call::Load { file: Vec::new() },
+        load_file(Vec::new()),
         SOLVE,
     ]
 }
@@ -67,8 +73,8 @@ fn refusals_leave_the_query() -> Vec<Call> {
         load(&q),
         solve(4_095, 9),
         solve(4_097, 9),
-        Call::Load { file: file[..106].to_vec() },
-        Call::Load { file: [file.clone(), vec![0]].concat() },
+        load_file(file[..106].to_vec()),
+        load_file([file.clone(), vec![0]].concat()),
         solve(4_096, 9),
         solve(0, 9),
         link(1, 1, 1, 1, 1),

@@ -4,7 +4,7 @@
 use crate::encode::encode;
 use crate::limits::MOST_SIZE;
 use crate::pinned;
-use crate::pinned_calls::{check, link, load, solve};
+use crate::pinned_calls::{check, link, load, load_file, solve};
 use crate::query::{Line, Query, Relation, Site};
 use crate::script::Call;
 use crate::sets::{self, Set};
@@ -82,7 +82,7 @@ pub fn between_two_solves() -> Vec<Call> {
         check(&best),
         check(&[]),
         solve(4_096, 9),
-        Call::Load { file: encode(&q)[..106].to_vec() },
+        load_file(encode(&q)[..106].to_vec()),
         solve(4_096, 9),
         solve(4_095, 9),
         solve(4_096, 8),

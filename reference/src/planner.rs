@@ -8,6 +8,7 @@ use crate::method::Method;
 use crate::query::{Line, Query};
 use crate::refusal::Refusal;
 use crate::solve;
+use crate::stated::Form;
 use crate::step;
 use crate::units::{Charge, Rate};
 
@@ -51,8 +52,9 @@ impl Planner {
         self.query.as_ref()
     }
 
-    pub fn load(&mut self, file: &[u8]) -> Result<Loaded, Refusal> {
-        let query = decode::decode(file)?;
+    /// Load, or load from rows. How the sizes were stated is not kept.
+    pub fn load(&mut self, file: &[u8], form: Form) -> Result<Loaded, Refusal> {
+        let query = decode::decode(file, form)?.query;
         let (relations, subqueries) = (query.relations.len(), query.subqueries().len());
         self.query = Some(query);
         Ok(Loaded { relations, subqueries })

@@ -3,19 +3,30 @@
 use std::io::{self, Read};
 
 use crate::planner::Link;
+use crate::stated::Form;
 
 #[derive(Clone, Debug, PartialEq, Eq)]
 pub enum Call {
-    Load { file: Vec<u8> },
+    /// Load, or load from rows.
+    Load {
+        form: Form,
+        file: Vec<u8>,
+    },
     Link(Link),
-    Solve { cells: u32, output: u32 },
-    Check { plan: Vec<u8> },
+    Solve {
+        cells: u32,
+        output: u32,
+    },
+    Check {
+        plan: Vec<u8>,
+    },
 }
 
 impl Call {
     pub fn record(&self) -> Vec<u8> {
         match self {
-            Call::Load { file } => with_length(1, file),
+            Call::Load { form: Form::Sizes, file } => with_length(1, file),
+            Call::Load { form: Form::Rows, file } => with_length(7, file),
             Call::Link(link) => {
                 let arguments = [link.sender, link.receiver, link.open, link.fixed, link.rate];
                 let bytes = arguments.iter().flat_map(|argument| argument.to_le_bytes());
@@ -32,7 +43,7 @@ impl Call {
     pub fn next(script: &mut impl Read) -> Option<Call> {
         let [opcode] = take(script).ok()?;
         let call = match opcode {
-            1 => Call::Load { file: take_with_length(script).ok()? },
+            1 => Call::Load { form: Form::Sizes, file: take_with_length(script).ok()? },
             2 => Call::Link(Link {
                 sender: u64::from_le_bytes(take(script).ok()?),
                 receiver: u64::from_le_bytes(take(script).ok()?),
@@ -45,6 +56,7 @@ impl Call {
                 cells: u32::from_le_bytes(take(script).ok()?),
                 output: u32::from_le_bytes(take(script).ok()?),
             },
+            7 => Call::Load { form: Form::Rows, file: take_with_length(script).ok()? },
             _ => return None,
         };
         Some(call)

@@ -1,9 +1,10 @@
 //! The calls on a standing state, as lines of the program `calls`.
 
 use reference::answers;
-use reference::encode::encode;
 use reference::pinned;
 use reference::pinned_calls::{self, SOLVE};
+use reference::pinned_row_calls::{self, load_from_rows};
+use reference::pinned_rows;
 use reference::pinned_solves;
 use reference::script::Call;
 
@@ -195,16 +196,20 @@ fn calls_of(mut script: &[u8]) -> Vec<Call> {
 
 #[test]
 fn a_script_is_read_as_it_was_written() {
-    for calls in pinned_calls::lists().into_iter().chain(pinned_solves::lists()) {
+    let lists = pinned_calls::lists().into_iter().chain(pinned_solves::lists());
+    for calls in lists.chain(pinned_row_calls::lists()) {
         let script: Vec<u8> = calls.iter().flat_map(|call| call.record()).collect();
         assert_eq!(calls_of(&script), calls);
     }
     assert_eq!(pinned_calls::solve(5_000, 9).record(), [6, 0x88, 0x13, 0, 0, 9, 0, 0, 0]);
+    assert_eq!(pinned_calls::load_file(vec![3; 258]).record()[..4], [1, 2, 1, 3]);
+    assert_eq!(pinned_row_calls::rows_file(vec![3; 258]).record()[..4], [7, 2, 1, 3]);
 }
 
 #[test]
 fn a_cut_record_ends_the_run() {
-    for record in [Call::Load { file: encode(&pinned::q()) }.record(), SOLVE.record()] {
+    let loads = [pinned_calls::load(&pinned::q()), load_from_rows(&pinned_rows::q())];
+    for record in loads.iter().chain([&SOLVE]).map(Call::record) {
         for length in 0..record.len() {
             assert_eq!(calls_of(&record[..length]), []);
         }

@@ -2,7 +2,7 @@
 //! that nearly works.
 
 use reference::compare::program::Program;
-use reference::compare::{apart, calls, plan};
+use reference::compare::{alike, apart, calls, plan};
 use reference::listing;
 use reference::method::Method;
 
@@ -41,11 +41,13 @@ fn plan_fails_when_it_nearly_works() {
 #[test]
 fn calls_pass_when_they_are_right() {
     let tally = calls::compare(&model_calls(Method::Rules), 42, 40).unwrap().unwrap();
-    let answered = ["load", "link", "solve", "check"].map(|call| format!("{call}, answered"));
-    let answered = answered.into_iter().chain(["solve, no route".to_string()]);
-    let refused = [1, 2, 3, 4, 5].map(|number| format!("load, refused {number}"));
-    let refused =
-        refused.into_iter().chain([20, 6, 3].map(|number| format!("link, refused {number}")));
+    let names = ["load", "load from rows", "link", "solve", "check"];
+    let answered = names.map(|call| format!("{call}, answered"));
+    let others = ["solve, no route", alike::HELD].map(String::from);
+    let answered = answered.into_iter().chain(others);
+    let of_load = |load| [1, 2, 3, 4, 5].map(|number| format!("{load}, refused {number}"));
+    let refused = ["load", "load from rows"].into_iter().flat_map(of_load);
+    let refused = refused.chain([20, 6, 3].map(|number| format!("link, refused {number}")));
     let refused = refused.chain([20, 21, 23].map(|number| format!("solve, refused {number}")));
     let refused =
         refused.chain([20, 7, 8, 9, 10, 11, 12].map(|number| format!("check, refused {number}")));

@@ -100,7 +100,7 @@ fn a_mismatch_shows_the_query_as_text() {
     let shown = run(env!("CARGO_BIN_EXE_diff_plan"), &["true", "1", "1"], &[]).stdout;
     let shown = String::from_utf8(shown).unwrap();
     assert!(shown.contains(&reference::hex::hex(&encode(&pinned::q()))), "{shown}");
-    assert!(shown.contains(&reference::text::print(&pinned::q())), "{shown}");
+    assert!(shown.contains(&reference::text::print(&pinned::q().into())), "{shown}");
 }
 
 #[test]

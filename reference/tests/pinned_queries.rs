@@ -7,6 +7,7 @@ use reference::pinned;
 use reference::pinned_calls;
 use reference::query::{Line, Query};
 use reference::random::Random;
+use reference::stated::Form;
 use reference::step::Step;
 use reference::units::{Bytes, Charge, Parcels, Rate};
 use reference::{check, decode, encode, exhaustive, listing, prices, solve, step};
@@ -23,7 +24,7 @@ fn list(query: &Query) -> String {
 fn q_has_107_bytes_and_its_listing() {
     let file = encode::encode(&pinned::q());
     assert_eq!(file.len(), 107);
-    assert_eq!(decode::decode(&file), Ok(pinned::q()));
+    assert_eq!(decode::decode(&file, Form::Sizes), Ok(pinned::q().into()));
     assert_eq!(list(&pinned::q()), "plan 4 cost 21 trials 3\nload 0\nload 1\nsend 0\njoin 0\n");
 }
 
@@ -99,7 +100,7 @@ fn plans_that_parcels_change() {
     assert_eq!((by_the_byte.steps[1], by_the_byte.cost), (Step::Send { to: 2 }, Charge(40)));
 
     let file = std::fs::read("../examples/star-of-nine.query").unwrap();
-    let star = decode::decode(&file).unwrap();
+    let star = decode::decode(&file, Form::Sizes).unwrap().query;
     let (plan, by_the_byte) = [Method::Rules, Method::LinesByTheByte]
         .map(|method| solve::solve(&star, method).unwrap())
         .into();

@@ -7,9 +7,10 @@ use reference::generate::queries::{self, Room};
 use reference::limits::LONGEST_FILE;
 use reference::pinned;
 use reference::random::Random;
+use reference::stated::Form;
 
 fn refused(file: &[u8]) -> Option<u64> {
-    decode(file).err().map(|refusal| refusal.number())
+    decode(file, Form::Sizes).err().map(|refusal| refusal.number())
 }
 
 /// Where the sections of Q stand in its file.
@@ -31,7 +32,7 @@ fn q_with(changes: &[(usize, u8)]) -> Vec<u8> {
 fn every_cut_is_1() {
     for (query, length) in [(pinned::q(), 107), (pinned::uniform(pinned::star(9), 8), LONGEST_FILE)]
     {
-        let cuts: Vec<Vec<u8>> = files::every_cut(&query).collect();
+        let cuts: Vec<Vec<u8>> = files::every_cut(&query.into()).collect();
         assert_eq!(cuts.len(), length);
         assert!(cuts.iter().all(|file| refused(file) == Some(1)));
     }
@@ -41,7 +42,7 @@ fn every_cut_is_1() {
 fn every_field_wrong_is_refused() {
     for case in 0..20 {
         let query = queries::query(&mut Random::for_case(31, case), &Room::full());
-        let (right, wrong) = (encode(&query), files::every_field_wrong(&query));
+        let (right, wrong) = (encode(&query), files::every_field_wrong(&query.into()));
         assert!(wrong.iter().all(|file| refused(file).is_some()));
         for (place, byte) in right.iter().enumerate() {
             assert!(wrong.iter().any(|file| file[place] != *byte), "byte {place} is never wrong");
@@ -58,7 +59,7 @@ fn counts() {
         assert!(bytes.iter().all(|&byte| refused(&q_with(&[(place, byte)])) == Some(2)));
     }
     assert_eq!(refused(&q_with(&[(SIZES + 1, 1)])), Some(2));
-    assert_eq!(refused(&files::odd_files(&pinned::q())[0]), Some(2), "ten relations");
+    assert_eq!(refused(&files::odd_files(&pinned::q().into())[0]), Some(2), "ten relations");
 }
 
 #[test]
@@ -115,6 +116,6 @@ fn amounts_of_a_closed_line_are_judged() {
 fn files_are_read_as_they_were_written() {
     for case in 0..1_000 {
         let query = queries::query(&mut Random::for_case(32, case), &Room::full());
-        assert_eq!(decode(&encode(&query)), Ok(query));
+        assert_eq!(decode(&encode(&query), Form::Sizes), Ok(query.into()));
     }
 }

@@ -14,7 +14,7 @@ use reference::text::{parse, print};
 fn example(name: &str) -> Query {
     let path = |ending| format!("{}/../examples/{name}.{ending}", env!("CARGO_MANIFEST_DIR"));
     let text = fs::read_to_string(path("txt")).unwrap();
-    let query = parse(&text).unwrap_or_else(|fault| panic!("{name}: {fault}"));
+    let query = parse(&text).unwrap_or_else(|fault| panic!("{name}: {fault}")).query;
     assert_eq!(
         fs::read(path("query")).unwrap(),
         encode(&query),
@@ -27,7 +27,8 @@ fn example(name: &str) -> Query {
 fn there_and_back() {
     for case in 0..1_000 {
         let query = queries::query(&mut Random::for_case(51, case), &Room::full());
-        assert_eq!(parse(&print(&query)), Ok(query));
+        let stated = query.into();
+        assert_eq!(parse(&print(&stated)), Ok(stated));
     }
 }
 
@@ -47,7 +48,7 @@ fn the_tool() {
         tool.arguments.push(direction.to_string());
         tool.run(input, Feed::Whole).unwrap()
     };
-    let q = print(&pinned::q());
+    let q = print(&pinned::q().into());
     assert_eq!(run("unpack", &encode(&pinned::q())), q);
     assert_eq!(run("pack", q.as_bytes()).as_bytes(), encode(&pinned::q()));
     assert_eq!(run("unpack", &[0]), "ended by exit status: 1\n");
@@ -56,16 +57,16 @@ fn the_tool() {
 
 #[test]
 fn a_line_of_its_own_goes_before_every_line() {
-    let q = print(&pinned::q());
+    let q = print(&pinned::q().into());
     let closed = parse(&format!("{q}line 1 to 0 closed, fixed 1, rate 1\n")).unwrap();
     let mut expected = pinned::q();
     expected.line_mut(1, 0).open = false;
-    assert_eq!(closed, expected);
+    assert_eq!(closed, expected.into());
 }
 
 /// Q's text with one statement replaced.
 fn fault(statement: &str, replacement: &str) -> String {
-    let text = print(&pinned::q());
+    let text = print(&pinned::q().into());
     assert!(text.contains(statement), "{statement}");
     let fault = parse(&text.replacen(statement, replacement, 1));
     fault.expect_err("a fault").to_string()

@@ -4,6 +4,7 @@
 use std::io::{self, Read};
 use std::process::ExitCode;
 
+use reference::stated::Form;
 use reference::{decode, exhaustive};
 
 const TOO_LARGE: u8 = 3;
@@ -11,8 +12,8 @@ const TOO_LARGE: u8 = 3;
 fn main() -> io::Result<ExitCode> {
     let mut file = Vec::new();
     io::stdin().read_to_end(&mut file)?;
-    let query = match decode::decode(&file) {
-        Ok(query) => query,
+    let query = match decode::decode(&file, Form::Sizes) {
+        Ok(stated) => stated.query,
         Err(refusal) => {
             println!("refused {}", refusal.number());
             return Ok(ExitCode::SUCCESS);

@@ -1,20 +1,28 @@
-//! `querytext pack < TEXT > FILE` and `querytext unpack < FILE > TEXT`: the readable form
-//! of a query to the bytes of its file, and back.
+//! The readable form of a query to the bytes of its file, and back. `pack` says on standard
+//! error which load the file is for; `sizes` prints a text with rows as one with sizes.
 
 use std::io::{self, Read, Write};
 use std::process::ExitCode;
 
+use reference::refusal::Refusal;
+use reference::stated::{Form, Stated};
 use reference::{decode, encode, text};
 
+const USAGE: &str = "usage: querytext pack < TEXT > FILE
+       querytext unpack < FILE > TEXT         a file for load
+       querytext unpack rows < FILE > TEXT    a file for load from rows
+       querytext sizes < TEXT > TEXT          rows and divisors in, the sizes worked out";
+
 fn main() -> ExitCode {
-    let direction = std::env::args().nth(1);
-    let result =
-        match direction.as_deref() {
-            Some("pack") => convert(pack),
-            Some("unpack") => convert(unpack),
-            _ => Err("usage: querytext pack < TEXT > FILE, or querytext unpack < FILE > TEXT"
-                .to_string()),
-        };
+    let words: Vec<String> = std::env::args().skip(1).collect();
+    let words: Vec<&str> = words.iter().map(String::as_str).collect();
+    let result = match words[..] {
+        ["pack"] => convert(pack),
+        ["unpack"] => convert(|file| unpack(file, Form::Sizes)),
+        ["unpack", "rows"] => convert(|file| unpack(file, Form::Rows)),
+        ["sizes"] => convert(sizes),
+        _ => Err(USAGE.to_string()),
+    };
     match result {
         Ok(()) => ExitCode::SUCCESS,
         Err(reason) => {
@@ -24,19 +32,33 @@ fn main() -> ExitCode {
     }
 }
 
-fn convert(change: fn(Vec<u8>) -> Result<Vec<u8>, String>) -> Result<(), String> {
+fn convert(change: impl FnOnce(Vec<u8>) -> Result<Vec<u8>, String>) -> Result<(), String> {
     let mut input = Vec::new();
     io::stdin().read_to_end(&mut input).map_err(|error| error.to_string())?;
     io::stdout().write_all(&change(input)?).map_err(|error| error.to_string())
 }
 
 fn pack(text: Vec<u8>) -> Result<Vec<u8>, String> {
-    let text = String::from_utf8(text).map_err(|_| "the text is not UTF-8")?;
-    let query = text::parse(&text).map_err(|fault| fault.to_string())?;
-    Ok(encode::encode(&query))
+    let stated = parse(text)?;
+    eprintln!("a file for {}", stated.form().load_name());
+    Ok(encode::encode_stated(&stated))
 }
 
-fn unpack(file: Vec<u8>) -> Result<Vec<u8>, String> {
-    let query = decode::decode(&file).map_err(|refusal| format!("refused {}", refusal.number()))?;
-    Ok(text::print(&query).into_bytes())
+fn unpack(file: Vec<u8>, form: Form) -> Result<Vec<u8>, String> {
+    let refused = |refusal: Refusal| format!("refused {}", refusal.number());
+    let stated = decode::decode(&file, form).map_err(refused)?;
+    Ok(text::print(&stated).into_bytes())
+}
+
+fn sizes(text: Vec<u8>) -> Result<Vec<u8>, String> {
+    let stated = parse(text)?;
+    match stated.form() {
+        Form::Sizes => Err("the text has its sizes, and no rows".to_string()),
+        Form::Rows => Ok(text::print(&stated.query.into()).into_bytes()),
+    }
+}
+
+fn parse(text: Vec<u8>) -> Result<Stated, String> {
+    let text = String::from_utf8(text).map_err(|_| "the text is not UTF-8")?;
+    text::parse(&text).map_err(|fault| fault.to_string())
 }

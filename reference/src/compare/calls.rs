@@ -1,14 +1,16 @@
-//! The program `calls` held to the model, line by line. A list of calls on which they
-//! differ is made as short as it can be before it is printed.
+//! The program `calls` held to the model, line by line, and its two loads to each other. A
+//! list of calls on which they differ is made as short as it can be before it is printed.
 
 use std::io;
 
-use crate::compare::calls_mismatch::{script, Mismatch};
+use crate::compare::alike;
+use crate::compare::calls_mismatch::{script, shortest, Compared, Mismatch};
 use crate::compare::program::{Answering, Feed};
 use crate::compare::tally::Tally;
 use crate::generate::calls;
 use crate::method::Method;
 use crate::pinned_calls::{self, SOLVE};
+use crate::pinned_row_calls;
 use crate::pinned_solves;
 use crate::planner::Planner;
 use crate::random::Random;
@@ -31,8 +33,8 @@ pub fn compare(
 ) -> io::Result<Result<Tally, Box<Mismatch>>> {
     let mut tally = Tally::default();
     for (calls, tail) in fixed() {
-        if let Err(mismatch) = compare_script(program, &calls, &tail, Feed::Whole, &mut tally)? {
-            return Ok(Err(Box::new(shortest(program, *mismatch)?)));
+        if let Err(mismatch) = compare_list(program, &calls, &tail, Feed::Whole, &mut tally)? {
+            return Ok(Err(mismatch));
         }
     }
     for case in 0..lists {
@@ -41,11 +43,33 @@ pub fn compare(
         let calls = calls::calls(&mut random, length);
         let tail = tail(&mut random);
         let feed = if case % 8 == 0 { Feed::Pieces(997) } else { Feed::Whole };
-        if let Err(mismatch) = compare_script(program, &calls, &tail, feed, &mut tally)? {
-            return Ok(Err(Box::new(shortest(program, *mismatch)?)));
+        if let Err(mismatch) = compare_list(program, &calls, &tail, feed, &mut tally)? {
+            return Ok(Err(mismatch));
         }
     }
     Ok(Ok(tally))
+}
+
+/// Holds the list to the model, then its loads from rows to ordinary loads.
+fn compare_list(
+    program: &impl Answering,
+    calls: &[Call],
+    tail: &[u8],
+    feed: Feed,
+    tally: &mut Tally,
+) -> Compared {
+    if let Err(mismatch) = compare_script(program, calls, tail, feed, tally)? {
+        let again = |calls: &[Call], tail: &[u8]| {
+            compare_script(program, calls, tail, Feed::Whole, &mut Tally::default())
+        };
+        return Ok(Err(Box::new(shortest(*mismatch, again)?)));
+    }
+    if let Err(mismatch) = alike::compare(program, calls, tally)? {
+        let again =
+            |calls: &[Call], _: &[u8]| alike::compare(program, calls, &mut Tally::default());
+        return Ok(Err(Box::new(shortest(*mismatch, again)?)));
+    }
+    Ok(Ok(()))
 }
 
 fn compare_script(
@@ -54,7 +78,7 @@ fn compare_script(
     tail: &[u8],
     feed: Feed,
     tally: &mut Tally,
-) -> io::Result<Result<(), Box<Mismatch>>> {
+) -> Compared {
     let printed = program.run(&script(calls, tail), feed)?;
     let found: Vec<&str> = printed.split_inclusive('\n').collect();
     let mut planner = Planner::empty(Method::Rules);
@@ -83,6 +107,7 @@ fn compare_script(
 /// Lists of calls and what stands behind them: nothing, or an unknown record.
 fn fixed() -> impl Iterator<Item = (Vec<Call>, Vec<u8>)> {
     let lists = pinned_calls::lists().into_iter().chain(pinned_solves::lists());
+    let lists = lists.chain(pinned_row_calls::lists());
     let alone = lists.map(|calls| (calls, Vec::new()));
     alone.chain(UNKNOWN.map(|kind| (vec![SOLVE], unknown_then_solve(kind))))
 }
@@ -92,8 +117,8 @@ fn fixed() -> impl Iterator<Item = (Vec<Call>, Vec<u8>)> {
 fn tail(random: &mut Random) -> Vec<u8> {
     let solve = SOLVE.record();
     match random.below(6) {
-        0 => vec![random.pick(&[1, 2, 5, 6])],
-        1 => vec![1, 200, 0, 3, 3, 3],
+        0 => vec![random.pick(&[1, 2, 5, 6, 7])],
+        1 => vec![random.pick(&[1, 7]), 200, 0, 3, 3, 3],
         2 => vec![2; 40],
         3 => solve[..random.between(2, 8) as usize].to_vec(),
         4 => unknown_then_solve(random.pick(&UNKNOWN)),
@@ -105,29 +130,10 @@ fn unknown_then_solve(kind: u8) -> Vec<u8> {
     [vec![kind], SOLVE.record()].concat()
 }
 
-/// Takes calls out, many at a time and then one by one, as long as a mismatch stays.
-fn shortest(program: &impl Answering, mut mismatch: Mismatch) -> io::Result<Mismatch> {
-    let mut chunk = mismatch.calls.len() / 2;
-    while chunk > 0 {
-        let mut from = 0;
-        while from < mismatch.calls.len() {
-            let mut fewer = mismatch.calls.clone();
-            fewer.drain(from..(from + chunk).min(fewer.len()));
-            let mut unused = Tally::default();
-            match compare_script(program, &fewer, &mismatch.tail, Feed::Whole, &mut unused)? {
-                Err(shorter) => mismatch = *shorter,
-                Ok(()) => from += chunk,
-            }
-        }
-        chunk /= 2;
-    }
-    Ok(mismatch)
-}
-
 /// The call and its answer without the figures.
 fn kind(call: &Call, answer: &str) -> String {
     let name = match call {
-        Call::Load { .. } => "load",
+        Call::Load { form, .. } => form.load_name(),
         Call::Link(_) => "link",
         Call::Solve { .. } => "solve",
         Call::Check { .. } => "check",

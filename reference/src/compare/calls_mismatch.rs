@@ -1,6 +1,7 @@
 //! A list of calls on which a program and the model differ, and how it is shown.
 
 use std::fmt;
+use std::io;
 
 use crate::hex::hex;
 use crate::script::Call;
@@ -22,13 +23,37 @@ impl fmt::Display for Mismatch {
         writeln!(f, "script {}", hex(&script(&self.calls, &self.tail)))?;
         for call in &self.calls {
             writeln!(f, "  {}", describe(call))?;
-            if let Call::Load { file } = call {
-                write!(f, "{}", text::of_file(file))?;
+            if let Call::Load { form, file } = call {
+                write!(f, "{}", text::of_file(file, *form))?;
             }
         }
         write!(f, "expected:\n{}", self.expected.concat())?;
         write!(f, "found:\n{}", self.found.concat())
     }
+}
+
+/// A mismatch, if there is one; an error where the program cannot be run.
+pub type Compared = io::Result<Result<(), Box<Mismatch>>>;
+
+/// Takes calls out, many at a time and then one by one, as long as a mismatch stays.
+pub fn shortest(
+    mut mismatch: Mismatch,
+    compare: impl Fn(&[Call], &[u8]) -> Compared,
+) -> io::Result<Mismatch> {
+    let mut chunk = mismatch.calls.len() / 2;
+    while chunk > 0 {
+        let mut from = 0;
+        while from < mismatch.calls.len() {
+            let mut fewer = mismatch.calls.clone();
+            fewer.drain(from..(from + chunk).min(fewer.len()));
+            match compare(&fewer, &mismatch.tail)? {
+                Err(shorter) => mismatch = *shorter,
+                Ok(()) => from += chunk,
+            }
+        }
+        chunk /= 2;
+    }
+    Ok(mismatch)
 }
 
 /// The records of the calls, then the bytes behind them.
@@ -40,7 +65,9 @@ pub fn script(calls: &[Call], tail: &[u8]) -> Vec<u8> {
 
 fn describe(call: &Call) -> String {
     match call {
-        Call::Load { file } => format!("load of {} bytes {}", file.len(), hex(file)),
+        Call::Load { form, file } => {
+            format!("{} of {} bytes {}", form.load_name(), file.len(), hex(file))
+        }
         Call::Link(link) => format!(
             "link {} to {}, open {}, fixed {}, rate {}",
             link.sender, link.receiver, link.open, link.fixed, link.rate

@@ -1,6 +1,7 @@
 //! Built programs and the C call held to the model, case by case. A run ends at the
 //! first mismatch, or says what it covered.
 
+pub mod alike;
 pub mod apart;
 pub mod arguments;
 pub mod c_call;

@@ -13,6 +13,7 @@ use crate::generate::queries::Room;
 use crate::hex::hex;
 use crate::listing;
 use crate::method::Method;
+use crate::stated::Form;
 use crate::text;
 
 pub const DEFAULT_SEED: u64 = 1;
@@ -29,7 +30,7 @@ pub struct Mismatch {
 impl fmt::Display for Mismatch {
     fn fmt(&self, f: &mut fmt::Formatter) -> fmt::Result {
         writeln!(f, "query {}", hex(&self.file))?;
-        write!(f, "{}", text::of_file(&self.file))?;
+        write!(f, "{}", text::of_file(&self.file, Form::Sizes))?;
         write!(f, "expected:\n{}", self.expected)?;
         write!(f, "found:\n{}", self.found)
     }
@@ -69,7 +70,7 @@ pub fn compare(
 
 /// The cheapest cost by exhaustive search, for a query that is searched at once.
 fn searched(file: &[u8]) -> Option<Option<u64>> {
-    let query = decode::decode(file).ok()?;
+    let query = decode::decode(file, Form::Sizes).ok()?.query;
     if !Room::small().fits(&query) {
         return None;
     }

@@ -2,14 +2,16 @@
 //! outputs fit the query in force.
 
 use crate::encode;
-use crate::generate::files;
+use crate::generate::damage;
+use crate::generate::links;
 use crate::generate::plans;
-use crate::generate::queries::{self, Room};
+use crate::generate::queries::Room;
+use crate::generate::rows;
 use crate::generate::standing::Standing;
-use crate::limits::{LONGEST_PLAN, MOST_FIXED, MOST_RATE, WORK_CELLS};
-use crate::planner::Link;
+use crate::limits::{LONGEST_PLAN, WORK_CELLS};
 use crate::random::Random;
 use crate::script::Call;
+use crate::stated::Form;
 
 /// A list of calls from an empty planner.
 pub fn calls(random: &mut Random, length: usize) -> Vec<Call> {
@@ -21,27 +23,55 @@ pub fn calls(random: &mut Random, length: usize) -> Vec<Call> {
     };
     let mut calls = Vec::new();
     while calls.len() < length {
-        let call = call(random, &standing, &room);
-        standing.add(&call);
-        calls.push(call);
+        let next = match random.below(100) {
+            0 => twins(random, &mut standing, &room),
+            _ => vec![call(random, &standing, &room)],
+        };
+        next.iter().for_each(|call| standing.add(call));
+        calls.extend(next);
     }
     calls
 }
 
 fn call(random: &mut Random, standing: &Standing, room: &Room) -> Call {
     match random.below(100) {
-        0..=3 => Call::Load { file: encode::encode(&queries::query(random, room)) },
-        4..=9 => {
-            let file = files::file(random, room);
-            Call::Load { file: long_at_times(random, file) }
-        }
-        10..=24 => Call::Link(link(random, standing)),
-        25..=59 => Call::Solve { cells: cells(random), output: output_length(random, standing) },
+        0..=9 => load(random, room),
+        10..=24 => Call::Link(links::link(random, standing)),
+        25..=59 => solve(random, standing),
         _ => {
             let plan = plan(random, standing);
             Call::Check { plan: long_at_times(random, plan) }
         }
     }
+}
+
+/// A load of either kind, of a file that is whole or damaged; now and then it gets a file
+/// that is for the other.
+fn load(random: &mut Random, room: &Room) -> Call {
+    let form = random.pick(&Form::ALL);
+    let file = if random.percent(40) {
+        encode::encode_stated(&rows::stated(random, room, form))
+    } else {
+        let file = damage::file(random, room, form);
+        long_at_times(random, file)
+    };
+    let taken_for = if random.percent(10) { random.pick(&Form::ALL) } else { form };
+    Call::Load { form: taken_for, file }
+}
+
+/// A query from rows and a solve; then the ordinary file with the same sizes, and a solve
+/// with the same areas.
+fn twins(random: &mut Random, standing: &mut Standing, room: &Room) -> Vec<Call> {
+    let stated = rows::stated(random, room, Form::Rows);
+    let from_rows = Call::Load { form: Form::Rows, file: encode::encode_stated(&stated) };
+    let ordinary = Call::Load { form: Form::Sizes, file: encode::encode(&stated.query) };
+    standing.add(&from_rows);
+    let solve = solve(random, standing);
+    vec![from_rows, solve.clone(), ordinary, solve]
+}
+
+fn solve(random: &mut Random, standing: &Standing) -> Call {
+    Call::Solve { cells: cells(random), output: output_length(random, standing) }
 }
 
 /// Now and then as many bytes as a record can have.
@@ -58,49 +88,6 @@ fn plan(random: &mut Random, standing: &Standing) -> Vec<u8> {
         Some(query) => plans::to_check(random, query, cheapest),
         None => vec![1, 1, 0],
     }
-}
-
-/// Mostly a line of the query; now and then an argument that a narrower number
-/// would take for a good one.
-fn link(random: &mut Random, standing: &Standing) -> Link {
-    let sites = standing.query().map_or(3, |query| query.sites.len()) as u64;
-    let mut link = Link {
-        sender: random.between(0, sites - 1),
-        receiver: random.between(0, sites - 1),
-        open: u64::from(random.percent(75)),
-        fixed: random.spread(MOST_FIXED),
-        rate: random.spread(MOST_RATE),
-    };
-    if link.receiver == link.sender && random.percent(80) {
-        link.receiver = (link.sender + 1) % sites;
-    }
-    for _ in 0..random.pick(&[0, 0, 0, 1, 1, 2]) {
-        match random.below(5) {
-            0 => link.sender = wild(random, link.sender, sites - 1),
-            1 => link.receiver = wild(random, link.receiver, sites - 1),
-            2 => link.open = wild(random, link.open, 1),
-            3 => link.fixed = wild(random, link.fixed, MOST_FIXED),
-            _ => link.rate = wild(random, link.rate, MOST_RATE),
-        }
-    }
-    link
-}
-
-fn wild(random: &mut Random, value: u64, limit: u64) -> u64 {
-    let number = random.number();
-    random.pick(&[
-        limit,
-        limit + 1,
-        value.wrapping_add(1 << 8),
-        value.wrapping_add(1 << 16),
-        value.wrapping_add(1 << 32),
-        (1 << 32) + 1,
-        value.wrapping_add(1 << 63),
-        u64::from(u32::MAX),
-        u64::MAX,
-        u64::MAX - limit,
-        number,
-    ])
 }
 
 fn cells(random: &mut Random) -> u32 {

@@ -1,8 +1,11 @@
 //! Random queries, damaged files, plans to check and lists of calls.
 
 pub mod calls;
+pub mod damage;
 pub mod files;
+pub mod links;
 pub mod plans;
 pub mod queries;
+pub mod rows;
 pub mod standing;
 pub mod unequal;

@@ -31,7 +31,7 @@ impl Standing {
         self.cheapest.get_or_init(solved).as_ref()
     }
 
-    /// Only load and link change the query, so no other call is run here.
+    /// Only loads and link change the query, so no other call is run here.
     pub fn add(&mut self, call: &Call) {
         if matches!(call, Call::Load { .. } | Call::Link(_)) {
             call.run(&mut self.planner);

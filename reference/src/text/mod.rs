@@ -1,19 +1,24 @@
 //! A readable text form of a query, one statement a line; docs/TEXT-FORM.md describes
 //! it.
 
+mod draft;
 mod parse;
 mod print;
+mod told;
+mod words;
 
 pub use parse::{parse, Fault};
 pub use print::print;
 
 use crate::decode;
 use crate::sets::{self, Set};
+use crate::stated::Form;
 
-/// A file's query as text, or the number that refuses it; for what a test shows.
-pub fn of_file(file: &[u8]) -> String {
-    match decode::decode(file) {
-        Ok(query) => print(&query),
+/// A file's query as text, or the number with which the load refuses it; for what a test
+/// shows.
+pub fn of_file(file: &[u8], form: Form) -> String {
+    match decode::decode(file, form) {
+        Ok(stated) => print(&stated),
         Err(refusal) => format!("refused {}\n", refusal.number()),
     }
 }

@@ -3,10 +3,13 @@
 use std::fmt::{self, Write};
 
 use crate::query::{Line, Query, Site};
+use crate::rows::RowCounts;
+use crate::stated::Stated;
 use crate::text::names;
 
-/// The text of the query; sites and lines that are all alike are told in one line.
-pub fn print(query: &Query) -> String {
+/// The text that states the query so; sites and lines that are all alike are told in one line.
+pub fn print(stated: &Stated) -> String {
+    let query = &stated.query;
     let mut text = String::new();
     print_sites(&mut text, query);
     for (number, relation) in query.relations.iter().enumerate() {
@@ -16,8 +19,9 @@ pub fn print(query: &Query) -> String {
     for (number, join) in query.joins().iter().enumerate() {
         put(&mut text, format_args!("join {number} links {} and {}", join.first, join.second));
     }
-    for (&subquery, size) in query.subqueries().iter().zip(&query.sizes) {
-        put(&mut text, format_args!("size of {} is {}", names(subquery), size.0));
+    match &stated.counts {
+        None => print_sizes(&mut text, query),
+        Some(counts) => print_row_counts(&mut text, counts),
     }
     print_lines(&mut text, query);
     put(&mut text, format_args!("delivery to site {}", query.delivery));
@@ -38,6 +42,21 @@ fn print_sites(text: &mut String, query: &Query) {
     }
     for (number, site) in query.sites.iter().enumerate() {
         put(text, format_args!("site {number} {}", describe(site)));
+    }
+}
+
+fn print_sizes(text: &mut String, query: &Query) {
+    for (&subquery, size) in query.subqueries().iter().zip(&query.sizes) {
+        put(text, format_args!("size of {} is {}", names(subquery), size.0));
+    }
+}
+
+fn print_row_counts(text: &mut String, counts: &RowCounts) {
+    for (relation, rows) in counts.rows.iter().enumerate() {
+        put(text, format_args!("rows of {relation} are {rows}"));
+    }
+    for (join, divisor) in counts.divisors.iter().enumerate() {
+        put(text, format_args!("divisor of join {join} is {divisor}"));
     }
 }
 
