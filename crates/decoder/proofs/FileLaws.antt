@@ -10,11 +10,12 @@ use Rattle.relations.specs.Trees.{reaches, subqueries}
 use Rattle.query.specs.declared.Sites.{Sites}
 use Rattle.query.specs.declared.Relations.{Relations}
 use Rattle.query.specs.declared.Query.{Query}
+use Rattle.decoder.specs.declared.Form.{Form}
 use Rattle.decoder.specs.declared.sections.Outcome.{Outcome}
 use Rattle.decoder.specs.declared.sections.Outcome.the-variants.{Whole, Refused}
 use Rattle.decoder.specs.declared.decoding.Decoded.{Decoded}
 use Rattle.decoder.specs.Fields.{Read, refused, value, andThen}
-use Rattle.decoder.specs.Decode.{sizesSection, afterDelivery, afterSizes, afterJoins}
+use Rattle.decoder.specs.Decode.{sizesBy, afterDelivery, afterSizes, afterJoins}
 use Rattle.decoder.specs.Code.{readOf, outcomeFault, decodedOf}
 
 -- A section that was read whole hands on what is left; one that was refused ends the reading with its number.
@@ -31,14 +32,14 @@ module _ {A : Type 0} (x : Read A) (next : A → List ℕ → Read Query) (o : O
       g ∙ rw (← i, j)
 
 -- The tree test after the last join. There is one join fewer than relations.
-module _ (s : Sites) (a : Relations) (J : Joins) (l : List ℕ) (c : J .count + 1 ≡ a .count) (b : Bool) (t : b ≡ reaches J (J .count + 1)) (d : Decoded) where
+module _ (form : Form) (s : Sites) (a : Relations) (J : Joins) (l : List ℕ) (c : J .count + 1 ≡ a .count) (b : Bool) (t : b ≡ reaches J (J .count + 1)) (d : Decoded) where
   test : reaches J (a .count) ≡ b
   test = ap (reaches J) (sym c) ∙ sym t
 
-  pub not-reached : not b ≡ true → d ≡ decodedOf (refused 4) → d ≡ decodedOf (afterJoins s a J l)
+  pub not-reached : not b ≡ true → d ≡ decodedOf (refused 4) → d ≡ decodedOf (afterJoins form s a J l)
   not-reached h g = g ∙ rw (test, not-true b h)
 
-  pub reached : not b ≡ false → d ≡ decodedOf (andThen (sizesSection J (J .count + 1) l) (afterSizes s a J)) → d ≡ decodedOf (afterJoins s a J l)
+  pub reached : not b ≡ false → d ≡ decodedOf (andThen (sizesBy form J (J .count + 1) l) (afterSizes s a J)) → d ≡ decodedOf (afterJoins form s a J l)
   reached h g = g ∙ rw (test, not-false b h, c)
 
 -- Nothing follows Delivery.

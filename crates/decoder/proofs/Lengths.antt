@@ -10,9 +10,9 @@ use lib.ListN.{length, length-drop}
 use lib.Dec.{ltb, leb}
 use borrow.Author.Tests.{ltb-false}
 use Rattle.query.proofs.Choice.{pick-all}
-use Rattle.decoder.specs.Fields.{Read, refused, value, andThen, number, field, items, storing, section}
+use Rattle.decoder.specs.Fields.{Read, refused, value, andThen, number, field, countField, items, storing, section}
 use Rattle.decoder.specs.Length.{sectionLength}
-use Rattle.decoder.proofs.Gives.{Gives, gives-then, gives-so, gives-items}
+use Rattle.decoder.proofs.Gives.{Gives, gives-then, gives-so, gives-items, Held, field-held}
 
 -- Every reading by it takes as many bytes as its value says: a number for each value.
 abbrev pub Takes : {T : Type 0} → (T → ℕ) → (List ℕ → Read T) → Type 0
@@ -60,16 +60,17 @@ gives-both :
 gives-both P Q R (refused k) p q f = p
 gives-both P Q R (value a r) p q f = f a r p q
 
--- A section of such things. Its count stays as it starts.
+-- A section of such things. Its count, which is from low to high, stays as it starts.
 pub section-takes :
     {A T : Type 0} (count : A → ℕ) (w low high : ℕ) (start : ℕ → A) (read : List ℕ → Read T) (store : ℕ → A → T → A) → Takes (λ t. w) read →
-    ((n : ℕ) → count (start n) ≡ n) → ((i : ℕ) (a : A) (t : T) → count (store i a t) ≡ count a) →
+    ((n : ℕ) → (low ≤ n) × (n ≤ high) → count (start n) ≡ n) → ((i : ℕ) (a : A) (t : T) → count (store i a t) ≡ count a) →
     Takes (λ a. sectionLength w (count a)) (section low high start (storing read store))
 unfolding section storing
 section-takes count w low high start read store takes first keep l =
-    field-next _ 1 2 low high l _ (omega arith) λ n m e.
+    gives-then (λ n m. Held 1 low high l n m × (length l ≡ 1 + length m)) _ (countField low high l) _
+    (gives-both _ _ _ (countField low high l) (field-held 1 2 low high l (omega arith)) (field-takes 1 2 low high (omega arith) l) λ n m c e. (c, e)) λ n m e.
     gives-both (λ a r. count a ≡ n) _ _ (items (storing read store) n 0 (start n) m)
-    (gives-items (λ a. count a ≡ n) (storing read store) (λ i a o h. takes-then _ (λ t. w) read o _ takes λ t r g. keep i a t ∙ h) n 0 (start n) m (first n))
+    (gives-items (λ a. count a ≡ n) (storing read store) (λ i a o h. takes-then _ (λ t. w) read o _ takes λ t r g. keep i a t ∙ h) n 0 (start n) m (first n (e .0 .low-most, e .0 .high-most)))
     (items-take (λ i. w * i) (storing read store) n
     (λ i below a o. gives-so _ _ (storing read store i a o) (storing-takes w read store takes i a o) λ b r g. omega (arith, mul-suc w i))
     n 0 (start n) m (zero-add n)) λ a r c g. omega (arith, ap (λ (x : ℕ). w * x) c)

@@ -1,5 +1,6 @@
 pub mod Gives
 pub mod Ranges
+pub mod RowRanges
 pub mod Valid
 pub mod Parts
 pub mod Reading
@@ -9,7 +10,15 @@ pub mod SectionLaws
 pub mod LineLaws
 pub mod SizeLaws
 pub mod Kept
+pub mod RowLaws
 pub mod FileLaws
 pub mod Refusals
 pub mod Lengths
+pub mod SectionLengths
 pub mod Longest
+pub mod Local
+pub mod LocalSections
+pub mod InOrder
+pub mod Bytes
+pub mod SizesWritten
+pub mod RowsAsSizes

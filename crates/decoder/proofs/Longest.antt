@@ -1,143 +1,71 @@
 -- The length of a decoded file, which is the sum of its sections' lengths, and so the longest: each count at its limit, and as many sizes as a tree of
 -- that many joins has subqueries.
-use Prim.Native.Nat.{ℕ, suc, _+_, _-_, _*_, _^_, _≤_, _<_, min}
-use native.Mathlib.Nat.{suc-mul, zero-add, mul-le-mul}
+use Prim.Native.Nat.{ℕ, _-_, _*_, _≤_}
+use native.Mathlib.Nat.{mul-le-mul}
 use native.Mathlib.Omega.{arith}
-use mathlib.Core.Path.{_≡_, refl}
-use mathlib.Core.Bool.{Bool, true, false}
+use mathlib.Core.Path.{_≡_}
 use mathlib.Core.List.{List}
-use lib.ListN.{length, replicate}
+use lib.ListN.{length}
 use lib.Dec.{eqb}
 use lib.Pow.{pow-mono}
-use borrow.Author.Tests.{eqb-true, eqb-false}
-use Rattle.relations.specs.Code.{mostSets}
+use borrow.Author.Tests.{eqb-true}
 use Rattle.relations.specs.declared.Joins.{Joins}
-use Rattle.relations.specs.Trees.{isSubquery, countBelow, subqueries, reaches}
+use Rattle.relations.specs.Trees.{reaches}
 use Rattle.relations.proofs.SubqueriesMost.{subqueries-most}
 use Rattle.query.specs.declared.Query.{Query}
-use Rattle.query.specs.declared.Lines.{Lines}
-use Rattle.query.specs.Choice.{pick}
-use Rattle.decoder.specs.Fields.{Read, refused, value, byteBelow, amountUpTo, items, storing}
-use Rattle.query.specs.Zeros.{noSites, noRelations, noJoins}
-use Rattle.decoder.specs.Decode.{terms, two, withSite, sitesSection, withRelation, relationsSection, withJoin, joinsSection}
-use Rattle.query.specs.Zeros.{noLines}
-use Rattle.query.specs.Terms.{withLine}
-use Rattle.decoder.specs.Decode.{withSize, sized, sizesSection, line, sender, linesSection, deliverySection, decode}
 use Rattle.query.specs.Query.{Valid, relationsOf, sitesOf}
 use Rattle.query.proofs.Choice.{pick-all}
-use Rattle.decoder.specs.Length.{sectionLength, fileLength, longestFile}
+use Rattle.decoder.specs.declared.Form.{Form}
+use Rattle.decoder.specs.declared.Form.the-variants as form
+use Rattle.decoder.specs.Fields.{refused}
+use Rattle.decoder.specs.Decode.{sitesSection, relationsSection, joinsSection, sizesBy, linesSection, deliverySection, decode}
+use Rattle.decoder.specs.Length.{sizesLength, fileLength, longestFile}
 use Rattle.decoder.specs.Theorems.{DecodeLength, LongestFile}
-use Rattle.decoder.proofs.Gives.{Gives, gives-so}
-use Rattle.decoder.proofs.Lengths.{Takes, field-takes, field-next, takes-then, items-take, storing-takes, section-takes}
+use Rattle.decoder.proofs.Gives.{Gives}
+use Rattle.decoder.proofs.Lengths.{Takes, takes-then}
+use Rattle.decoder.proofs.SectionLengths.{sites-take, relations-take, joins-take, sizes-take, rows-take, lines-take, delivery-takes}
 use Rattle.decoder.proofs.Valid.{decode-valid}
 
--- Sites, relations and joins, by their items.
-terms-take : Takes (λ t. 9) terms
-unfolding terms
-terms-take l =
-    field-next _ 1 3 0 1 l _ (omega arith) λ flag m e.
-    field-next _ 4 3 0 1_000_000 m _ (omega arith) λ fixed n f.
-    field-next _ 4 3 0 1_000 n _ (omega arith) λ rate o g. omega arith
-
-two-take : (a b : ℕ) → Takes (λ t. 2) (two a b)
-unfolding two
-two-take a b l =
-    field-next _ 1 3 0 (a - 1) l _ (omega arith) λ x m e.
-    field-next _ 1 3 0 (b - 1) m _ (omega arith) λ y n f. omega arith
-
-sites-take : Takes (λ a. sectionLength 9 (a .count)) sitesSection
-unfolding sitesSection
-sites-take = section-takes (λ a. a .count) 9 1 8 noSites terms withSite terms-take (λ n. refl) (λ i a t. refl)
-
-relations-take : (s : ℕ) → Takes (λ a. sectionLength 2 (a .count)) (relationsSection s)
-unfolding relationsSection
-relations-take s = section-takes (λ a. a .count) 2 1 9 noRelations (two s 2) withRelation (two-take s 2) (λ n. refl) (λ i a t. refl)
-
-joins-take : (n : ℕ) → Takes (λ a. sectionLength 2 (a .count)) (joinsSection n)
-unfolding joinsSection
-joins-take n = section-takes (λ a. a .count) 2 (n - 1) (n - 1) noJoins (two n n) withJoin (two-take n n) (λ m. refl) (λ i a t. refl)
-
--- Sizes: an amount for each subquery.
-size-takes : (J : Joins) (n S : ℕ) (a l : List ℕ) → Gives (λ b r. length l + 4 * countBelow J n S ≡ 4 * countBelow J n (suc S) + length r) (sized J n S a l)
-unfolding sized countBelow
-size-takes J n S a l = go (isSubquery J n S)
-  where
-    amount : List ℕ → Read ℕ
-    amount = amountUpTo 1_000_000_000
-
-    go : (d : Bool)
-        → Gives (λ b r. length l + 4 * countBelow J n S ≡ 4 * elim d [ true ↦ suc (countBelow J n S) | false ↦ countBelow J n S ] + length r)
-        (pick d (storing amount withSize S a l) (value a l))
-    go true = gives-so _ _ (storing amount withSize S a l) (storing-takes 4 amount withSize (field-takes 4 3 0 1_000_000_000 (omega arith)) S a l) λ b r e. omega arith
-    go false = omega arith
-
-sizes-take : (J : Joins) (n : ℕ) → Takes (λ a. 2 + 4 * subqueries J n) (sizesSection J n)
-unfolding sizesSection countBelow
-sizes-take J n l =
-    field-next _ 2 2 (subqueries J n) (subqueries J n) l _ (omega arith) λ v m e.
-    gives-so _ _ (items (sized J n) (2 ^ n) 0 (replicate mostSets 0) m)
-    (items-take (λ S. 4 * countBelow J n S) (sized J n) (2 ^ n) (λ S below. size-takes J n S) (2 ^ n) 0 (replicate mostSets 0) m (zero-add (2 ^ n))) λ a r g. omega arith
-
--- Lines: terms for each receiver but the sender. The receivers below b other than a are those below a and those above it.
-others : ℕ → ℕ → ℕ
-others a b = min a b + (b - suc a)
-
-line-takes : (a b : ℕ) (ls : Lines) (l : List ℕ) → Gives (λ c r. length l + 9 * others a b ≡ 9 * others a (suc b) + length r) (line a b ls l)
-unfolding line others
-line-takes a b ls l =
-    pick-all (Gives (λ c r. length l + 9 * others a b ≡ 9 * others a (suc b) + length r)) (eqb a b) _ _ (λ own. omega (arith, eqb-true a b own))
-    (λ other. gives-so _ _ (storing terms (withLine a) b ls l) (storing-takes 9 terms (withLine a) terms-take b ls l) λ c r e. omega (arith, eqb-false a b other))
-
-sender-takes : (s a : ℕ) → a < s → (ls : Lines) → Takes (λ b. 9 * (s - 1)) (sender s a ls)
-unfolding sender others
-sender-takes s a below ls l =
-    gives-so _ _ (items (line a) s 0 ls l) (items-take (λ b. 9 * others a b) (line a) s (λ b in-s. line-takes a b) s 0 ls l (zero-add s)) λ c r e. omega arith
-
-lines-take : (s : ℕ) → Takes (λ a. sectionLength 9 (s * (s - 1))) (linesSection s)
-unfolding linesSection
-lines-take s l =
-    field-next _ 1 2 (s * (s - 1)) (s * (s - 1)) l _ (omega arith) λ v m e.
-    gives-so _ _ (items (sender s) s 0 noLines m)
-    (items-take (λ a. 9 * (a * (s - 1))) (sender s) s
-    (λ a below ls o. gives-so _ _ (sender s a ls o) (sender-takes s a below ls o) λ c r g. omega (arith, suc-mul a (s - 1))) s 0 noLines m (zero-add s)) λ c r g. omega arith
-
-delivery-takes : (s : ℕ) → Takes (λ t. sectionLength 1 1) (deliverySection s)
-unfolding deliverySection
-delivery-takes s l =
-    field-next _ 1 2 1 1 l _ (omega arith) λ v m e.
-    gives-so _ _ (byteBelow s m) (field-takes 1 3 0 (s - 1) (omega arith) m) λ t r f. omega arith
+-- The sizes, by the form of the file.
+sizes-by-take : (f : Form) (J : Joins) (n : ℕ) → Takes (λ a. sizesLength f J n) (sizesBy f J n)
+sizes-by-take form.Sizes J n = sizes-take J n
+sizes-by-take form.Rows J n = rows-take J n
 
 -- The sections in reading order, with nothing behind the last.
-file-length : (file : List ℕ) → Gives (λ q r. length file ≡ fileLength q) (decode file)
+file-length : (f : Form) (file : List ℕ) → Gives (λ q r. length file ≡ fileLength f q) (decode f file)
 unfolding decode fileLength
-file-length file =
+file-length f file =
     takes-then _ _ sitesSection file _ sites-take λ sites l si.
     takes-then _ _ (relationsSection (sites .count)) l _ (relations-take (sites .count)) λ relations m ri.
     takes-then _ _ (joinsSection (relations .count)) m _ (joins-take (relations .count)) λ joins n ji.
-    pick-all (Gives (λ q r. length file ≡ fileLength q)) (reaches joins (relations .count)) _ (refused 4)
+    pick-all (Gives (λ q r. length file ≡ fileLength f q)) (reaches joins (relations .count)) _ (refused 4)
     (λ reached.
-    takes-then _ _ (sizesSection joins (relations .count)) n _ (sizes-take joins (relations .count)) λ sizes o zi.
+    takes-then _ _ (sizesBy f joins (relations .count)) n _ (sizes-by-take f joins (relations .count)) λ sizes o zi.
     takes-then _ _ (linesSection (sites .count)) o _ (lines-take (sites .count)) λ lines p li.
     takes-then _ _ (deliverySection (sites .count)) p _ (delivery-takes (sites .count)) λ target r ti.
-    pick-all (Gives (λ q r. length file ≡ fileLength q)) (eqb (length r) 0) _ (refused 5) (λ whole. omega (arith, eqb-true (length r) 0 whole)) (λ more. omega arith))
+    pick-all (Gives (λ q r. length file ≡ fileLength f q)) (eqb (length r) 0) _ (refused 5) (λ whole. omega (arith, eqb-true (length r) 0 whole)) (λ more. omega arith))
     (λ apart. omega arith)
 
 pub decode-length : DecodeLength
-decode-length file q l e = rw e at (file-length file)
+decode-length f file q l e = rw e at (file-length f file)
 
 -- Each count at its limit.
-valid-most : (q : Query) → Valid q → fileLength q ≤ longestFile
+pairs-most : (q : Query) → Valid q → sitesOf q * (sitesOf q - 1) ≤ 56
+pairs-most q v = mul-le-mul {n₁ = sitesOf q} {m₁ = sitesOf q - 1} {n₂ = 8} {m₂ = 7} (v .sites-most) (omega arith)
+
+valid-most : (f : Form) (q : Query) → Valid q → fileLength f q ≤ longestFile f
 unfolding fileLength
-valid-most q v =
+valid-most form.Sizes q v =
     omega (
       arith,
       v .sites-most,
       v .relations-most,
       v .tree .joins,
-      mul-le-mul {n₁ = sitesOf q} {m₁ = sitesOf q - 1} {n₂ = 8} {m₂ = 7} (v .sites-most) (omega arith),
+      pairs-most q v,
       subqueries-most (q .joins) (relationsOf q) (v .tree),
       pow-mono {i = q .joins .count} {j = 8} (omega arith),
     )
+valid-most form.Rows q v = omega (arith, pairs-most q v)
 
 pub longest-file : LongestFile
-longest-file file q l e = omega (arith, decode-length file q l e, valid-most q (decode-valid file q l e))
+longest-file f file q l e = omega (arith, decode-length f file q l e, valid-most f q (decode-valid f file q l e))

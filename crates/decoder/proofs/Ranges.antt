@@ -20,7 +20,7 @@ use Rattle.query.proofs.Linked.{Fair, LinesIn, with-line}
 use Rattle.query.proofs.Choice.{pick-all}
 use Rattle.decoder.specs.Fields.{field, amountUpTo}
 use Rattle.decoder.specs.Decode.{terms, Two, two, withSite, sitesSection, withRelation, relationsSection}
-use Rattle.decoder.specs.Decode.{withJoin, joinsSection, withSize, sized, sizesSection, line, sender, linesSection, deliverySection}
+use Rattle.decoder.specs.Decode.{withJoin, joinsSection, withNumber, sized, sizesSection, line, sender, linesSection, deliverySection}
 use Rattle.decoder.proofs.Gives.{Has, Holds, gives-so, gives-items, gives-storing, gives-section, field-held, field-then}
 
 pub terms-held : Holds Fair 9 terms
@@ -83,14 +83,15 @@ joins-in n =
       seconds = set-up-to _ (a .second) i _ (b .1) (h .seconds);
     })
 
-amount-held : (most : ℕ) → Holds (λ v. v ≤ most) 4 (amountUpTo most)
-amount-held most l = gives-so _ _ (amountUpTo most l) (field-held 4 3 0 most l (omega arith)) λ v r d. (d .high-most, d .rest)
+-- A lone number of four bytes.
+pub number-held : (low high : ℕ) → Holds (λ v. (low ≤ v) × (v ≤ high)) 4 (field 4 3 low high)
+number-held low high l = gives-so _ _ (field 4 3 low high l) (field-held 4 3 low high l (omega arith)) λ v r d. ((d .low-most, d .high-most), d .rest)
 
 size-keeps : (J : Joins) (n S : ℕ) (a l : List ℕ) → UpTo 1_000_000_000 a → Has (UpTo 1_000_000_000) (sized J n S a l)
 unfolding sized
 size-keeps J n S a l h =
     pick-all (Has (UpTo 1_000_000_000)) (isSubquery J n S) _ _
-    (λ t. gives-storing _ (UpTo 1_000_000_000) 4 (amountUpTo 1_000_000_000) withSize (amount-held 1_000_000_000) (λ i b v m u. set-up-to _ b i v m u) S a l h) (λ t. h)
+    (λ t. gives-storing _ (UpTo 1_000_000_000) 4 (amountUpTo 1_000_000_000) withNumber (number-held 0 1_000_000_000) (λ i b v m u. set-up-to _ b i v (m .1) u) S a l h) (λ t. h)
 
 pub sizes-in : (J : Joins) (n : ℕ) (l : List ℕ) → Has (UpTo 1_000_000_000) (sizesSection J n l)
 unfolding sizesSection

@@ -3,4 +3,4 @@ use Rattle.decoder.specs.Theorems.{DecodeRefusals}
 use Rattle.decoder.proofs.Valid.{file-in}
 
 pub decode-refusals : DecodeRefusals
-decode-refusals file k e = rw e at (file-in file)
+decode-refusals f file k e = rw e at (file-in f file)

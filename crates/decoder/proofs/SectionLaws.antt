@@ -1,10 +1,10 @@
--- The sections Sites, Relations, Joins and Delivery. Each of the first three starts with its count, goes on by an item, and ends with a refused field:
--- the laws are over the count's limits, the item's reader and what it is stored in.
+-- The sections Sites, Relations, Joins, Rows, Divisors and Delivery. Each but the last starts with its count, goes on by an item, and ends with a refused
+-- field: the laws are over the count's limits, the item's reader and what it is stored in.
 use Prim.Native.Nat.{ℕ, _+_, _-_, _<_}
 use native.Mathlib.Nat.{sub-zero}
 use mathlib.Core.Path.{_≡_, refl, sym, ap, _∙_}
 use mathlib.Core.List.{List}
-use lib.ListN.{drop}
+use lib.ListN.{drop, set}
 use lib.Seq.{drop-drop}
 use Rattle.query.specs.Terms.{Terms}
 use Rattle.decoder.specs.declared.fields.Field.{Field}
@@ -13,8 +13,8 @@ use Rattle.decoder.specs.declared.items.TermsRead.{TermsRead}
 use Rattle.decoder.specs.declared.items.TermsRead.the-variants as of-terms
 use Rattle.decoder.specs.declared.items.TwoRead.{TwoRead}
 use Rattle.decoder.specs.declared.items.TwoRead.the-variants as of-two
-use Rattle.decoder.specs.Fields.{Read, refused, value, countField, byteBelow, items, storing, section}
-use Rattle.decoder.specs.Decode.{Two, terms, two, deliverySection}
+use Rattle.decoder.specs.Fields.{Read, refused, value, field, countField, byteBelow, fromOneTo, items, storing, section}
+use Rattle.decoder.specs.Decode.{Two, terms, two, withNumber, deliverySection}
 use Rattle.decoder.specs.Code.{fieldOf, faultOf, termsOf, termsFault, twoOf, twoFault}
 use Rattle.decoder.proofs.Reading.{field-value, field-no, field-most, chain-on, count-cut}
 use Rattle.decoder.proofs.ItemLaws.{terms-value, terms-no, two-value, two-no}
@@ -50,6 +50,26 @@ module _ {A : Type 0} (store : ℕ → A → Two → A) (c d : ℕ) (answer : Re
       (x y : ℕ) → t ≡ of-two.Two x y →
       answer ≡ items (storing (two c d) store) (n - (i + 1)) (i + 1) (store i a (record { one = x; other = y })) (drop (at + 2) l)
   two-stored x y h = stored-on (two c d) store (storing (two c d) store) answer n i at a l p refl q so less _ 2 (two-value c d p t x y e h)
+
+-- A lone number of four bytes, stored at its place.
+module _ (low high : ℕ) (item : ℕ → List ℕ → List ℕ → Read (List ℕ)) (answer : Read (List ℕ)) (n i at : ℕ) (a l p : List ℕ) (f : Field)
+    (is : item i a p ≡ storing (field 4 3 low high) withNumber i a p) (e : f ≡ fieldOf (field 4 3 low high p)) (q : p ≡ drop at l)
+    (so : answer ≡ items item (n - i) i a (drop at l)) (less : i < n) where
+  pub number-refused : (m k : ℕ) → m ≡ faultOf f → f ≡ Refused k → refused m ≡ answer
+  number-refused m k g h = stored-no (field 4 3 low high) withNumber item answer n i at a l p is q so less m (field-no _ m k f g h e)
+
+  pub number-stored : (v : ℕ) → f ≡ Value v → answer ≡ items item (n - (i + 1)) (i + 1) (set a i v) (drop (at + 4) l)
+  number-stored v h = stored-on (field 4 3 low high) withNumber item answer n i at a l p is q so less v 4 (field-value 4 3 low high v p f e h)
+
+-- A row count or a divisor.
+module _ (answer : Read (List ℕ)) (n i at : ℕ) (a l p : List ℕ) (f : Field) (e : f ≡ fieldOf (fromOneTo 1_000_000 p)) (q : p ≡ drop at l)
+    (so : answer ≡ items (storing (fromOneTo 1_000_000) withNumber) (n - i) i a (drop at l)) (less : i < n) where
+  pub count-refused : (m k : ℕ) → m ≡ faultOf f → f ≡ Refused k → refused m ≡ answer
+  count-refused = number-refused 1 1_000_000 (storing (fromOneTo 1_000_000) withNumber) answer n i at a l p f refl e q so less
+
+  pub count-stored :
+      (v : ℕ) → f ≡ Value v → answer ≡ items (storing (fromOneTo 1_000_000) withNumber) (n - (i + 1)) (i + 1) (set a i v) (drop (at + 4) l)
+  count-stored = number-stored 1 1_000_000 (storing (fromOneTo 1_000_000) withNumber) answer n i at a l p f refl e q so less
 
 pub ruleset of-section = (section-cut, section-start, field-most, terms-refused, terms-stored, two-refused, two-stored, items-done)
 

@@ -11,10 +11,11 @@ use Rattle.relations.specs.Trees.{isSubquery, subqueries}
 use Rattle.decoder.specs.declared.fields.Field.{Field}
 use Rattle.decoder.specs.declared.fields.Field.the-variants.{Value, Refused}
 use Rattle.decoder.specs.Fields.{Read, refused, value, field, amountUpTo, items, storing}
-use Rattle.decoder.specs.Decode.{withSize, sized, sizesSection}
+use Rattle.decoder.specs.Decode.{withNumber, sized, sizesSection}
 use Rattle.decoder.specs.Code.{fieldOf, faultOf}
-use Rattle.decoder.proofs.Reading.{field-value, field-no, count-cut}
-use Rattle.decoder.proofs.Loops.{stored-no, stored-on, items-on}
+use Rattle.decoder.proofs.Reading.{field-value, count-cut}
+use Rattle.decoder.proofs.Loops.{items-on}
+use Rattle.decoder.proofs.SectionLaws.{number-refused, number-stored}
 
 -- The loop's end is the number of sets.
 pub below-end : (S v n : ℕ) → S < v → v ≡ 2 ^ n → S < 2 ^ n
@@ -40,7 +41,7 @@ module _ (J : Joins) (n : ℕ) (answer : Read (List ℕ)) (e S at : ℕ) (a l : 
   unfolding sized
   none h p = rw h
 
-  one : isSubquery J n S ≡ true → (p : List ℕ) → sized J n S a p ≡ storing (amountUpTo 1_000_000_000) withSize S a p
+  one : isSubquery J n S ≡ true → (p : List ℕ) → sized J n S a p ≡ storing (amountUpTo 1_000_000_000) withNumber S a p
   unfolding sized
   one h p = rw h
 
@@ -53,12 +54,9 @@ module _ (J : Joins) (n : ℕ) (answer : Read (List ℕ)) (e S at : ℕ) (a l : 
     pub size-no :
         (m k : ℕ) → m ≡ faultOf f → f ≡ Refused k → f ≡ fieldOf (amountUpTo 1_000_000_000 p) → p ≡ drop at l → b ≡ true → b ≡ isSubquery J n S →
         answer ≡ items (sized J n) (e - S) S a (drop at l) → S < e → refused m ≡ answer
-    size-no m k u h g q t i so less =
-        stored-no (amountUpTo 1_000_000_000) withSize (sized J n) answer e S at a l p (one (sym i ∙ t) p) q so less m (field-no _ m k f u h g)
+    size-no m k u h g q t i so less = number-refused 0 1_000_000_000 (sized J n) answer e S at a l p f (one (sym i ∙ t) p) g q so less m k u h
 
     pub size-on :
         (v : ℕ) → f ≡ Value v → f ≡ fieldOf (amountUpTo 1_000_000_000 p) → p ≡ drop at l → b ≡ true → b ≡ isSubquery J n S →
         answer ≡ items (sized J n) (e - S) S a (drop at l) → S < e → answer ≡ items (sized J n) (e - (S + 1)) (S + 1) (set a S v) (drop (at + 4) l)
-    size-on v h g q t i so less =
-        stored-on (amountUpTo 1_000_000_000) withSize (sized J n) answer e S at a l p (one (sym i ∙ t) p) q so less v 4
-        (field-value 4 3 0 1_000_000_000 v p f g h)
+    size-on v h g q t i so less = number-stored 0 1_000_000_000 (sized J n) answer e S at a l p f (one (sym i ∙ t) p) g q so less v h

@@ -8,26 +8,28 @@ use lib.Dec.{eqb}
 use Rattle.relations.specs.Trees.{reaches}
 use Rattle.relations.proofs.Leads.{clash}
 use Rattle.query.specs.declared.Query.{Query}
+use Rattle.decoder.specs.declared.Form.{Form}
 use Rattle.decoder.specs.declared.decoding.Decoded.{Decoded}
 use Rattle.decoder.specs.declared.sections.Outcome.the-variants.{Whole}
 use Rattle.decoder.specs.Fields.{Read, refused, value}
-use Rattle.decoder.specs.Decode.{sitesSection, relationsSection, joinsSection, sizesSection, linesSection, deliverySection, decode}
+use Rattle.decoder.specs.Decode.{sitesSection, relationsSection, joinsSection, sizesBy, linesSection, deliverySection, decode}
 use Rattle.decoder.specs.Code.{decodedOf}
 use Rattle.query.specs.Query.{Valid, home}
 use Rattle.query.proofs.Choice.{pick-all}
 use Rattle.decoder.specs.Theorems.{DecodeValid}
 use Rattle.decoder.proofs.Gives.{Has, gives-then}
-use Rattle.decoder.proofs.Ranges.{sites-in, relations-in, joins-in, sizes-in, lines-in, delivery-in}
+use Rattle.decoder.proofs.Ranges.{sites-in, relations-in, joins-in, lines-in, delivery-in}
+use Rattle.decoder.proofs.RowRanges.{sizes-by-in}
 
-pub file-in : (file : List ℕ) → Has Valid (decode file)
+pub file-in : (f : Form) (file : List ℕ) → Has Valid (decode f file)
 unfolding decode home
-file-in file =
+file-in f file =
     gives-then _ _ (sitesSection file) _ (sites-in file) λ sites l si.
     gives-then _ _ (relationsSection (sites .count) l) _ (relations-in (sites .count) l) λ relations m ri.
     gives-then _ _ (joinsSection (relations .count) m) _ (joins-in (relations .count) m) λ joins n ji.
     pick-all (Has Valid) (reaches joins (relations .count)) _ (refused 4)
     (λ reached.
-    gives-then _ _ (sizesSection joins (relations .count) n) _ (sizes-in joins (relations .count) n) λ sizes o zi.
+    gives-then _ _ (sizesBy f joins (relations .count) n) _ (sizes-by-in f joins (relations .count) n) λ sizes o zi.
     gives-then _ _ (linesSection (sites .count) o) _ (lines-in (sites .count) o) λ lines p li.
     gives-then _ _ (deliverySection (sites .count) p) _ (delivery-in (sites .count) p) λ target r ti.
     pick-all (Has Valid) (eqb (length r) 0) _ (refused 5)
@@ -53,12 +55,12 @@ file-in file =
     (λ apart. omega arith)
 
 pub decode-valid : DecodeValid
-decode-valid file q l e = rw e at (file-in file)
+decode-valid f file q l e = rw e at (file-in f file)
 
 -- The same of the code's answer.
 whole-valid : (x : Read Query) → Has Valid x → decodedOf x .outcome ≡ Whole → Valid (decodedOf x .query)
 whole-valid (refused k) h e = absurd (clash (cc))
 whole-valid (value q l) h e = h
 
-pub decoded-valid : (file : List ℕ) (d : Decoded) → d ≡ decodedOf (decode file) → d .outcome ≡ Whole → Valid (d .query)
-decoded-valid file d e whole = rw e (whole-valid (decode file) (file-in file) (rw e at whole))
+pub decoded-valid : (f : Form) (file : List ℕ) (d : Decoded) → d ≡ decodedOf (decode f file) → d .outcome ≡ Whole → Valid (d .query)
+decoded-valid f file d e whole = rw e (whole-valid (decode f file) (file-in f file) (rw e at whole))

@@ -13,7 +13,10 @@ use Rattle.query.specs.declared.Query.{Query}
 use Rattle.query.specs.Choice.{pick}
 use Rattle.query.specs.Zeros.{noSites, noRelations, noJoins, noLines}
 use Rattle.query.specs.Terms.{Terms, withLine}
-use Rattle.decoder.specs.Fields.{Read, refused, value, andThen, field, countField, byteBelow, amountUpTo, items, storing, section}
+use Rattle.sizing.specs.Worked.{workedSizes}
+use Rattle.decoder.specs.declared.Form.{Form}
+use Rattle.decoder.specs.declared.Form.the-variants as form
+use Rattle.decoder.specs.Fields.{Read, refused, value, andThen, field, countField, byteBelow, amountUpTo, fromOneTo, items, storing, section}
 
 -- Fixed amounts are up to 1,000,000, rates up to 1,000, sizes up to 1,000,000,000.
 unfoldable pub terms : List ℕ → Read Terms
@@ -50,15 +53,30 @@ withJoin i a t = record { count = a .count; first = set (a .first) i (t .one); s
 unfoldable pub joinsSection : ℕ → List ℕ → Read Joins
 joinsSection n = section (n - 1) (n - 1) noJoins (storing (two n n) withJoin)
 
--- Sizes, count = number of subqueries, in two bytes: an amount each, ascending subquery number.
-abbrev pub withSize : ℕ → List ℕ → ℕ → List ℕ
-withSize S a v = set a S v
+-- A lone number, stored at its place.
+abbrev pub withNumber : ℕ → List ℕ → ℕ → List ℕ
+withNumber i a v = set a i v
 
+-- Sizes, count = number of subqueries, in two bytes: an amount each, ascending subquery number.
 unfoldable pub sized : Joins → ℕ → ℕ → List ℕ → List ℕ → Read (List ℕ)
-sized J n S a l = pick (isSubquery J n S) (storing (amountUpTo 1_000_000_000) withSize S a l) (value a l)
+sized J n S a l = pick (isSubquery J n S) (storing (amountUpTo 1_000_000_000) withNumber S a l) (value a l)
 
 unfoldable pub sizesSection : Joins → ℕ → List ℕ → Read (List ℕ)
 sizesSection J n l = andThen (field 2 2 (subqueries J n) (subqueries J n) l) (λ m l. items (sized J n) (2 ^ n) 0 (replicate mostSets 0) l)
+
+-- Rows, count n, and Divisors, count n - 1: a number from 1 to 1,000,000 each. Places without an item hold 1, so that each number of the list is in range.
+unfoldable pub countsSection : ℕ → List ℕ → Read (List ℕ)
+countsSection m = section m m (λ c. replicate 9 1) (storing (fromOneTo 1_000_000) withNumber)
+
+-- Rows, then Divisors, and the sizes that are worked out from them.
+unfoldable pub rowsSections : Joins → ℕ → List ℕ → Read (List ℕ)
+rowsSections J n l =
+    andThen (countsSection n l) (λ rows l. andThen (countsSection (n - 1) l) (λ divisors l. value (workedSizes J n rows divisors) l))
+
+-- The sizes, by the form of the file.
+abbrev pub sizesBy : Form → Joins → ℕ → List ℕ → Read (List ℕ)
+sizesBy form.Sizes J n l = sizesSection J n l
+sizesBy form.Rows J n l = rowsSections J n l
 
 -- Lines, count s(s-1): open flag, fixed amount, rate; by sender, then receiver, the sender itself left out.
 unfoldable pub line : ℕ → ℕ → Lines → List ℕ → Read Lines
@@ -90,18 +108,18 @@ abbrev pub afterSizes : Sites → Relations → Joins → List ℕ → List ℕ 
 afterSizes sites relations joins sizes l = andThen (linesSection (sites .count) l) (afterLines sites relations joins sizes)
 
 -- After the last join, refusal 4 where the joins do not reach all relations from relation 0, else the sizes.
-abbrev pub afterJoins : Sites → Relations → Joins → List ℕ → Read Query
-afterJoins sites relations joins l =
-    pick (reaches joins (relations .count)) (andThen (sizesSection joins (relations .count) l) (afterSizes sites relations joins)) (refused 4)
+abbrev pub afterJoins : Form → Sites → Relations → Joins → List ℕ → Read Query
+afterJoins f sites relations joins l =
+    pick (reaches joins (relations .count)) (andThen (sizesBy f joins (relations .count) l) (afterSizes sites relations joins)) (refused 4)
 
 -- After the relations, the joins.
-abbrev pub afterRelations : Sites → Relations → List ℕ → Read Query
-afterRelations sites relations l = andThen (joinsSection (relations .count) l) (afterJoins sites relations)
+abbrev pub afterRelations : Form → Sites → Relations → List ℕ → Read Query
+afterRelations f sites relations l = andThen (joinsSection (relations .count) l) (afterJoins f sites relations)
 
 -- After the sites, the relations.
-abbrev pub afterSites : Sites → List ℕ → Read Query
-afterSites sites l = andThen (relationsSection (sites .count) l) (afterRelations sites)
+abbrev pub afterSites : Form → Sites → List ℕ → Read Query
+afterSites f sites l = andThen (relationsSection (sites .count) l) (afterRelations f sites)
 
 -- The whole file begins with the sites.
-unfoldable pub decode : List ℕ → Read Query
-decode file = andThen (sitesSection file) afterSites
+unfoldable pub decode : Form → List ℕ → Read Query
+decode f file = andThen (sitesSection file) (afterSites f)

@@ -37,6 +37,10 @@ byteBelow limit l = field 1 3 0 (limit - 1) l
 abbrev pub amountUpTo : ℕ → List ℕ → Read ℕ
 amountUpTo limit l = field 4 3 0 limit l
 
+-- A number from 1 to a limit: four bytes.
+abbrev pub fromOneTo : ℕ → List ℕ → Read ℕ
+fromOneTo limit l = field 4 3 1 limit l
+
 -- Items i, i + 1, .. of a section, k of them, each read from where the last one ended into what the section has so far.
 unfoldable pub items : {A : Type 0} → (ℕ → A → List ℕ → Read A) → ℕ → ℕ → A → List ℕ → Read A
 items item zero i a l = value a l

@@ -2,4 +2,5 @@ pub mod Fields
 pub mod Decode
 pub mod Code
 pub mod Length
+pub mod Ordinary
 pub mod Theorems

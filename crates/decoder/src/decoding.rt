@@ -1,12 +1,13 @@
 // The whole query file: its sections in reading order, the tree test after the last join, and nothing after Delivery.
+use crate::Form;
 use crate::fields::part_from;
 use crate::line_section::read_lines;
+use crate::rows::read_by_form;
 use crate::sections::Outcome;
 use crate::sections::read_delivery;
 use crate::sections::read_joins;
 use crate::sections::read_relations;
 use crate::sections::read_sites;
-use crate::sizes::read_sizes;
 use query::Lines;
 use query::Query;
 use query::Relations;
@@ -22,7 +23,7 @@ ghost use mathlib.Core.Path.{_≡_};
 ghost use Rattle.relations.specs.Trees.{Tree, subqueries};
 ghost use Rattle.relations.specs.Code.{Drawn};
 ghost use Rattle.decoder.specs.Fields.{refused, andThen};
-ghost use Rattle.decoder.specs.Decode.{sizesSection, afterLines, afterSizes, afterJoins, afterRelations, afterSites, decode};
+ghost use Rattle.decoder.specs.Decode.{sizesBy, afterLines, afterSizes, afterJoins, afterRelations, afterSites, decode};
 ghost use Rattle.decoder.specs.Code.{outcomeFault, decodedOf};
 
 // A decoded file: the query and its number of subqueries, or a refusal and nothing else.
@@ -53,10 +54,10 @@ fn refused(fault: u64) -> Decoded
     }
 }
 
-// The query that a file holds, or the number of its first refusal. Sites stand first. Each function after this one reads the next section from the
+// The query that a file of a form holds, or the number of its first refusal. Sites stand first. Each function after this one reads the next section from the
 // part that is left: it refuses, or goes on with what it read.
-pub fn decode(file: &[u8]) -> Decoded
-    ensures { λ r. ⌜ r ≡ decodedOf (decode (now (file .entry))) ⌝ }
+pub fn decode(form: Form, file: &[u8]) -> Decoded
+    ensures { λ r. ⌜ r ≡ decodedOf (decode form (now (file .entry))) ⌝ }
 {
     let read = read_sites(file);
     let o = read.outcome;
@@ -64,13 +65,13 @@ pub fn decode(file: &[u8]) -> Decoded
         return refused(outcome_fault(o));
     };
     let part = part_from(file, read.used);
-    after_sites(part, read.sites)
+    after_sites(form, part, read.sites)
 }
 
 // After the sites, the relations.
-fn after_sites(part: &[u8], sites: Sites) -> Decoded
+fn after_sites(form: Form, part: &[u8], sites: Sites) -> Decoded
     requires { ⌜ (1 ≤ sites .count) × (sites .count ≤ 8) ⌝ }
-    ensures { λ r. ⌜ r ≡ decodedOf (afterSites sites (now (part .entry))) ⌝ }
+    ensures { λ r. ⌜ r ≡ decodedOf (afterSites form sites (now (part .entry))) ⌝ }
 {
     let read = read_relations(part, sites.count);
     let o = read.outcome;
@@ -78,14 +79,14 @@ fn after_sites(part: &[u8], sites: Sites) -> Decoded
         return refused(outcome_fault(o));
     };
     let part = part_from(part, read.used);
-    after_relations(part, sites, read.relations)
+    after_relations(form, part, sites, read.relations)
 }
 
 // After the relations, the joins.
-fn after_relations(part: &[u8], sites: Sites, relations: Relations) -> Decoded
+fn after_relations(form: Form, part: &[u8], sites: Sites, relations: Relations) -> Decoded
     requires { ⌜ (1 ≤ sites .count) × (sites .count ≤ 8) ⌝ }
     requires { ⌜ (1 ≤ relations .count) × (relations .count ≤ 9) ⌝ }
-    ensures { λ r. ⌜ r ≡ decodedOf (afterRelations sites relations (now (part .entry))) ⌝ }
+    ensures { λ r. ⌜ r ≡ decodedOf (afterRelations form sites relations (now (part .entry))) ⌝ }
 {
     let read = read_joins(part, relations.count);
     let o = read.outcome;
@@ -93,32 +94,32 @@ fn after_relations(part: &[u8], sites: Sites, relations: Relations) -> Decoded
         return refused(outcome_fault(o));
     };
     let part = part_from(part, read.used);
-    after_joins(part, sites, relations, read.joins)
+    after_joins(form, part, sites, relations, read.joins)
 }
 
 // After the last join, the tree test.
-fn after_joins(part: &[u8], sites: Sites, relations: Relations, joins: Joins) -> Decoded
+fn after_joins(form: Form, part: &[u8], sites: Sites, relations: Relations, joins: Joins) -> Decoded
     requires { ⌜ (1 ≤ sites .count) × (sites .count ≤ 8) ⌝ }
     requires { ⌜ Drawn joins × (joins .count + 1 ≡ relations .count) ⌝ }
-    ensures { λ r. ⌜ r ≡ decodedOf (afterJoins sites relations joins (now (part .entry))) ⌝ }
+    ensures { λ r. ⌜ r ≡ decodedOf (afterJoins form sites relations joins (now (part .entry))) ⌝ }
 {
     if !reaches(joins) {
         return refused(4);
     }
-    after_tree(part, sites, relations, joins)
+    after_tree(form, part, sites, relations, joins)
 }
 
-// Where the joins make a tree, the sizes, as many as it has subqueries. Which sets these are is worked out once.
-fn after_tree(part: &[u8], sites: Sites, relations: Relations, joins: Joins) -> Decoded
+// Where the joins make a tree, the sizes of its subqueries. Which sets these are is worked out once.
+fn after_tree(form: Form, part: &[u8], sites: Sites, relations: Relations, joins: Joins) -> Decoded
     requires { ⌜ (1 ≤ sites .count) × (sites .count ≤ 8) ⌝ }
     requires { ⌜ (joins .count ≤ 8) × Tree joins (joins .count + 1) ⌝ }
     requires { ⌜ joins .count + 1 ≡ relations .count ⌝ }
-    ensures { λ r. ⌜ r ≡ decodedOf (andThen (sizesSection joins (joins .count + 1) (now (part .entry))) (afterSizes sites relations joins)) ⌝ }
+    ensures { λ r. ⌜ r ≡ decodedOf (andThen (sizesBy form joins (joins .count + 1) (now (part .entry))) (afterSizes sites relations joins)) ⌝ }
 {
     let table = join_table(joins);
     let due = count_subqueries(joins, &table);
     let mut sizes = [0u32; SETS];
-    let read = read_sizes(part, joins, &table, due, &mut sizes);
+    let read = read_by_form(form, part, joins, &table, due, &mut sizes);
     let o = read.outcome;
     let Outcome::Whole = o else {
         return refused(outcome_fault(o));

@@ -3,6 +3,7 @@ mod decoding;
 mod fields;
 mod items;
 mod line_section;
+mod rows;
 mod sections;
 mod sizes;
 
@@ -11,3 +12,9 @@ pub use decoding::decode;
 pub use items::MOST_FIXED;
 pub use items::MOST_RATE;
 pub use sections::Outcome;
+
+// Which sections a file has between Joins and Lines: the sizes of its subqueries, or row counts and divisors from which they are worked out.
+pub enum Form {
+    Sizes,
+    Rows,
+}

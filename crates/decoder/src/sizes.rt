@@ -10,6 +10,7 @@ use relations::Joins;
 use relations::SETS;
 use relations::is_connected;
 use relations::single;
+use sizing::MOST_SIZE;
 ghost use Prim.Native.Nat.{_+_};
 ghost use mathlib.Core.Path.{_≡_};
 ghost use lib.ListN.{replicate};
@@ -18,9 +19,6 @@ ghost use Rattle.relations.specs.Trees.{subqueries};
 ghost use Rattle.relations.specs.Table.{Tabled};
 ghost use Rattle.decoder.specs.Decode.{sizesSection};
 ghost use Rattle.decoder.specs.Code.{readOf};
-
-// The largest size.
-pub const MOST_SIZE: u64 = 1000000000;
 
 // The sizes of the subqueries of a tree, which are due in number, by its table, into a list of zeros.
 pub(crate) fn read_sizes(

@@ -1,32 +1,18 @@
 -- The walk over the joins of a set, which are given as bits, from the lowest on: every bit that is passed over is 0, and its figure is none.
-use Prim.Native.Nat.{ℕ, zero, suc, _+_, _-_, _/_, _%_, _^_, _≤_, _<_, zero-le}
+use Prim.Native.Nat.{ℕ, _+_, _-_, _^_, _≤_, _<_, zero-le}
 use native.Mathlib.Omega.{arith}
-use native.Mathlib.Decide.{decLt}
 use mathlib.Core.Path.{_≡_, refl, sym, ap, subst, _∙_}
 use mathlib.Core.List.{List}
 use lib.Bits.{bitAnd}
-use lib.Count.{trailingZeros, under}
 use lib.ListN.{replicate}
-use lib.Pow.{pow-pos}
 use borrow.Author.Tests.{eq-eqb, ne-eqb}
 use Rattle.relations.specs.Sets.{bit, lowest}
-use Rattle.relations.proofs.Bits.{bit-zero, bit-suc, bit-none, bit-sub, bit-pow, bit-pow-other, bit-range, sub-single, le-of-sub}
-use Rattle.relations.proofs.Counts.{lowest-in}
+use Rattle.relations.proofs.Bits.{bit-range}
+use Rattle.relations.proofs.Walks.{From, from-first, none-from, lowest-left, lowest-past, lowest-whole, none-between, one-within, one-less, from-next}
 use Rattle.board.specs.Figures.{noneMark, leastOf, Lanes, Marked, Tried}
 use Rattle.board.specs.Board.{sideAt}
 use Rattle.filler.specs.Trials.{Lent, trialOf, Triable, partBy, joinTrial, Joinable, joinedIn}
 use Rattle.filler.proofs.Turns.{none-marked, least-none, least-more, least-past}
-
--- No bit is set below the lowest one.
-below-lowest : (n S i : ℕ) → i < trailingZeros n S → bit S i ≡ 0
-unfolding trailingZeros
-below-lowest zero S i h = absurd (omega arith)
-below-lowest (suc n) S i h = go i (S % 2) refl (below-lowest n (S / 2)) h
-  where
-    go : (i d : ℕ) → S % 2 ≡ d → ((j : ℕ) → j < trailingZeros n (S / 2) → bit (S / 2) j ≡ 0) → i < under d (trailingZeros n (S / 2)) → bit S i ≡ 0
-    go zero zero e above l = bit-zero S ∙ e
-    go (suc i) zero e above l = bit-suc S i ∙ above i (omega arith)
-    go i (suc d) e above l = absurd (omega arith)
 
 -- Its figure where a join is among the bits, and where it is not.
 module _ (combine : ℕ → ℕ → ℕ) (l : Lent) (joins S k e : ℕ) where
@@ -42,8 +28,7 @@ module _ (combine : ℕ → ℕ → ℕ) (l : Lent) (joins S k e : ℕ) where
 pub record JoinedTo (combine : ℕ → ℕ → ℕ) (l : Lent) (joins S : ℕ) (row : List ℕ) (left : ℕ) : Type 0 where
   pub at : ℕ
   pub at-most : at ≤ 8
-  pub gone : (e : ℕ) → e < at → bit left e ≡ 0
-  pub same : (e : ℕ) → at ≤ e → bit left e ≡ bit joins e
+  pub from : From joins left at
   pub few : left < 256
   pub lanes : Lanes row (λ (k : ℕ). leastOf (joinTrial combine l joins S k) at)
   pub marked : Marked row
@@ -55,8 +40,7 @@ module _ (combine : ℕ → ℕ → ℕ) (l : Lent) (joins S : ℕ) where
       record {
         at = 0;
         at-most = zero-le;
-        gone = λ e h. absurd (omega arith);
-        same = λ e h. ap (λ (x : ℕ). bit x e) every;
+        from = from-first joins left every;
         few = omega arith;
         lanes = least-none (joinTrial combine l joins S) _ 0 refl refl;
         marked = none-marked;
@@ -67,32 +51,29 @@ module _ (combine : ℕ → ℕ → ℕ) (l : Lent) (joins S : ℕ) where
     pub joined-done : left ≡ 0 → Lanes row (joinedIn combine l joins S) × Marked row
     joined-done none = (
       least-past (joinTrial combine l joins S) (j .at) 8 row (j .lanes) (j .at-most)
-          (λ k i low h. trial-out combine l joins S k i (sym (j .same i low) ∙ ap (λ (x : ℕ). bit x i) none ∙ bit-none i)),
+          (λ k i low h. trial-out combine l joins S k i (none-from joins left (j .at) (j .from) none i low)),
       j .marked,
     )
 
     -- The lowest bit that is left, and the word with that bit alone.
     module _ (some : left ≡ 0 → ⊥) where
-      next-in : bit left (lowest 64 left) ≡ 1
-      next-in = lowest-in 64 left (omega arith) (omega (arith, j .few))
+      fits : left < 2 ^ 64
+      fits = omega (arith, j .few)
 
       pub next-low : lowest 64 left < 8
-      next-low = bit-range left 8 (lowest 64 left) (j .few) next-in
+      next-low = bit-range left 8 (lowest 64 left) (j .few) (lowest-left joins left (j .at) (j .from) some fits)
 
       next-past : j .at ≤ lowest 64 left
-      next-past = elim (decLt (lowest 64 left) (j .at)) [
-        | yes h ↦ (let none : bit left (lowest 64 left) ≡ 0 = j .gone (lowest 64 left) h in omega (arith, next-in))
-        | no h ↦ omega arith
-      ]
+      next-past = lowest-past joins left (j .at) (j .from) some fits
 
       next-joins : bit joins (lowest 64 left) ≡ 1
-      next-joins = sym (j .same (lowest 64 left) next-past) ∙ next-in
+      next-joins = lowest-whole joins left (j .at) (j .from) some fits
 
       pub next-within : (one : ℕ) → one ≡ 2 ^ lowest 64 left → one ≤ left
-      next-within one is = omega (arith, le-of-sub (2 ^ lowest 64 left) left (sub-single left (lowest 64 left) next-in))
+      next-within = one-within joins left (j .at) (j .from) some fits
 
       pub next-less : (one : ℕ) → one ≡ 2 ^ lowest 64 left → left - one < left
-      next-less one is = omega (arith, pow-pos (lowest 64 left))
+      next-less = one-less joins left (j .at) (j .from) some fits
 
       -- What trying its join asks, and the row with the trials of it.
       pub next-asks : Joinable l joins S → (side : ℕ) → side ≡ sideAt (l .board) (lowest 64 left) → (k : ℕ) → k < 8 → Triable l (bitAnd S side) (S - bitAnd S side) k
@@ -102,26 +83,16 @@ module _ (combine : ℕ → ℕ → ℕ) (l : Lent) (joins S : ℕ) where
       next-lanes : Lanes row (λ (k : ℕ). leastOf (joinTrial combine l joins S k) (lowest 64 left))
       next-lanes =
           least-past (joinTrial combine l joins S) (j .at) (lowest 64 left) row (j .lanes) next-past
-          (λ k i low h. trial-out combine l joins S k i (sym (j .same i low) ∙ below-lowest 64 left i h))
-
-      next-gone : (i : ℕ) → i < lowest 64 left + 1 → bit left i - bit (2 ^ lowest 64 left) i ≡ 0
-      next-gone i h = elim (decLt i (lowest 64 left)) [
-        | yes k ↦ omega (arith, below-lowest 64 left i k)
-        | no k ↦ (let q : i ≡ lowest 64 left = omega arith in rw q (omega (arith, next-in, bit-pow (lowest 64 left))))
-      ]
+          (λ k i low h. trial-out combine l joins S k i (none-between joins left (j .at) (j .from) some fits i low h))
 
       pub joined-more : (side one : ℕ) (new : List ℕ) → side ≡ sideAt (l .board) (lowest 64 left) → one ≡ 2 ^ lowest 64 left →
           Tried row new (trialOf combine l (bitAnd S side) (S - bitAnd S side)) × Marked new → JoinedTo combine l joins S new (left - one)
-      joined-more side one new is single (t, m) = rw single (record {
+      joined-more side one new is single (t, m) = record {
         at = lowest 64 left + 1;
         at-most = omega (arith, next-low);
-        gone = λ i h. less i ∙ next-gone i h;
-        same = λ i h. less i ∙ omega (arith, bit-pow-other (lowest 64 left) i (λ q. omega arith), j .same i (omega (arith, next-past)));
+        from = from-next joins left (j .at) (j .from) some fits one single;
         few = omega (arith, j .few);
         lanes = least-more (joinTrial combine l joins S) _ (lowest 64 left) row new next-lanes t
             (λ k h. ap (λ (x : ℕ). trialOf combine l (bitAnd S x) (S - bitAnd S x) k) is ∙ trial-in combine l joins S k (lowest 64 left) next-joins);
         marked = m;
-      })
-        where
-          less : (i : ℕ) → bit (left - 2 ^ lowest 64 left) i ≡ bit left i - bit (2 ^ lowest 64 left) i
-          less i = bit-sub (2 ^ lowest 64 left) left (sub-single left (lowest 64 left) next-in) i
+      }

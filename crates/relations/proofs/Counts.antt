@@ -3,13 +3,14 @@
 use Prim.Native.Nat.{ℕ, zero, suc, _+_, _-_, _/_, _%_, _^_, _≤_, _<_}
 use mathlib.Core.Path.{_≡_, refl, sym, ap, _∙_}
 use mathlib.Core.Logic.{inl, inr}
-use native.Mathlib.Nat.{zero-add, pow-suc, eq-zero-or-pos, le-of-suc-le-suc}
+use native.Mathlib.Nat.{zero-add, pow-suc, eq-zero-or-pos, le-of-suc-le-suc, le-antisymm}
+use native.Mathlib.Decide.{decLt}
 use native.Mathlib.Omega.{arith}
 use lib.Arith.{bin-ind}
 use lib.Pow.{pow-lt, pow-pos}
 use lib.Count.{ones, ones-step, trailingZeros, under}
 use Rattle.relations.specs.Sets.{bit, Sub, Apart, put, lowest}
-use Rattle.relations.proofs.Bits.{bit-zero, bit-suc, half-pow, sub-apart, sub-whole, sub-single, single-apart, bit-range, put-new, pow-cases}
+use Rattle.relations.proofs.Bits.{bit-zero, bit-suc, half-pow, le-of-sub, sub-apart, sub-whole, sub-single, single-apart, bit-range, put-new, pow-cases}
 
 pub ones-zero : ones 0 ≡ 0
 unfolding ones
@@ -66,6 +67,24 @@ lowest-in (suc n) S p h = go (S % 2) refl (λ q. lowest-in n (S / 2) q (omega (a
     go : (d : ℕ) → S % 2 ≡ d → (0 < S / 2 → bit (S / 2) (lowest n (S / 2)) ≡ 1) → bit S (under d (lowest n (S / 2))) ≡ 1
     go zero e above = bit-suc S (lowest n (S / 2)) ∙ above (omega arith)
     go (suc d) e above = omega (arith, bit-zero S)
+
+-- No member is below the lowest, so a member that no other is below is the lowest.
+pub below-lowest : (n S i : ℕ) → i < lowest n S → bit S i ≡ 0
+unfolding trailingZeros
+below-lowest zero S i h = absurd (omega arith)
+below-lowest (suc n) S i h = go i (S % 2) refl (below-lowest n (S / 2)) h
+  where
+    go : (i d : ℕ) → S % 2 ≡ d → ((j : ℕ) → j < lowest n (S / 2) → bit (S / 2) j ≡ 0) → i < under d (lowest n (S / 2)) → bit S i ≡ 0
+    go zero zero e above l = bit-zero S ∙ e
+    go (suc i) zero e above l = bit-suc S i ∙ above i (omega arith)
+    go i (suc d) e above l = absurd (omega arith)
+
+pub lowest-least : (n S r : ℕ) → bit S r ≡ 1 → lowest n S ≤ r
+lowest-least n S r h = elim (decLt r (lowest n S)) [ yes l ↦ absurd (omega (arith, below-lowest n S r l)) | no l ↦ omega arith ]
+
+pub lowest-is : (n S r : ℕ) → S < 2 ^ n → bit S r ≡ 1 → ((x : ℕ) → bit S x ≡ 1 → r ≤ x) → lowest n S ≡ r
+lowest-is n S r h here least =
+    le-antisymm (lowest-least n S r here) (least (lowest n S) (lowest-in n S (omega (arith, le-of-sub (2 ^ r) S (sub-single S r here), pow-pos r)) h))
 
 pub lowest-below : (n S : ℕ) → 0 < S → S < 2 ^ n → lowest n S < n
 lowest-below n S p h = bit-range S n (lowest n S) h (lowest-in n S p h)

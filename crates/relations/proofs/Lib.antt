@@ -7,6 +7,7 @@ pub mod Following
 pub mod Drawing
 pub mod Bits
 pub mod Counts
+pub mod Walks
 pub mod Leads
 pub mod Growth
 pub mod Connected

@@ -1,0 +1,4 @@
+pub mod Worked
+pub mod Code
+pub mod Theorems
+pub mod Vectors
