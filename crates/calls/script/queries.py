@@ -37,6 +37,16 @@ def sections(sites, relations, joins, size, line, target):
     ]
 
 
+def counted(values):
+    return bytes([len(values)]) + b"".join(amount(value) for value in values)
+
+
+def sections_from_rows(sites, relations, joins, rows, divisors, line, target):
+    """The same for load from rows: Rows and Divisors stand where Sizes stood."""
+    parts = sections(sites, relations, joins, lambda subquery: 0, line, target)
+    return parts[:3] + [counted(rows), counted(divisors)] + parts[4:]
+
+
 def file(*parts):
     return b"".join(sections(*parts))
 
@@ -77,11 +87,19 @@ def alone(target):
 Q = sections(SITES, RELATIONS, chain(2), SIZES, every(1, 1, 1), 0)
 
 
+# The same from rows: 10 * 4 / 16 is 2.5, so 3.
+Q_FROM_ROWS = sections_from_rows(SITES, RELATIONS, chain(2), [10, 4], [16], every(1, 1, 1), 0)
+
+
+def changed(parts, section, at, value):
+    """The file with the bytes at a place of a section replaced."""
+    part = parts[section]
+    return b"".join(parts[:section]) + part[:at] + value + part[at + len(value) :] + b"".join(parts[section + 1 :])
+
+
 def q_with(section, at, value):
     """Q with the bytes at a place of a section replaced."""
-    parts = list(Q)
-    parts[section] = Q[section][:at] + value + Q[section][at + len(value) :]
-    return b"".join(parts)
+    return changed(Q, section, at, value)
 
 
 # The longest file: nine relations in a star, eight sites, and no two amounts of a kind alike.

@@ -8,6 +8,10 @@ def load(file):
     return struct.pack("<BH", 1, len(file)) + file
 
 
+def load_from_rows(file):
+    return struct.pack("<BH", 7, len(file)) + file
+
+
 def link(*arguments):
     return struct.pack("<B5Q", 2, *arguments)
 

@@ -5,11 +5,11 @@ from script.records import check, load, no_route, solve, solved, steps
 FREE = (1, 0, 0)
 
 
-def found(query, loaded, cost, trials, plan):
+def found(query, loaded, cost, trials, plan, by=load):
     """The output has a byte more than the plan."""
     written = steps(plan)
     output = len(written) + 1
-    yield load(query), [loaded]
+    yield by(query), [loaded]
     yield solve(4096, output), solved(cost, trials, written, output)
     yield check(written), [f"check {cost}"]
 

@@ -1,6 +1,6 @@
 """The state from call to call: what is refused by it, what a call leaves, and the limits of what is lent."""
-from script.queries import q
-from script.records import check, link, load, no_route, refused, solve, solved, steps
+from script.queries import Q_FROM_ROWS, q
+from script.records import check, link, load, load_from_rows, no_route, refused, solve, solved, steps
 
 WIDEST = 2**64 - 1
 
@@ -18,6 +18,8 @@ def script():
     yield solve(4096, 9), refused(20)
     yield check(b""), ["refused 20"]
     yield load(q() + b"\0"), ["refused 5"]
+    yield solve(4096, 9), refused(20)
+    yield load_from_rows(b"".join(Q_FROM_ROWS) + b"\0"), ["refused 5"]
     yield solve(4096, 9), refused(20)
     # Q; a refused call and a check leave the query, and the solve after them answers as the one before
     yield load(q()), ["load 2 3"]
