@@ -3,6 +3,7 @@ use crate::answers;
 use crate::input;
 use crate::input::Got;
 use crate::lent;
+use planner::AfterLoad;
 use planner::Planner;
 ghost use Rattle.planner.specs.Contracts.{Sound};
 
@@ -46,16 +47,28 @@ pub(crate) fn next(p: Planner) -> After
         return end(p);
     };
     match kind {
-        1 => load(p),
+        1 => load(p, false),
         2 => link(p),
         5 => check(p),
         6 => solve(p),
+        7 => load(p, true),
         _ => end(p),
     }
 }
 
-// 1 load: u16 length, bytes.
-fn load(p: Planner) -> After
+// The one load or the other.
+fn loaded(p: Planner, from_rows: bool, file: &[u8]) -> AfterLoad
+    requires { ⌜ Sound p ⌝ }
+    ensures { λ r. ⌜ Sound (r .planner) ⌝ }
+{
+    if from_rows {
+        return planner::load_rows(p, file);
+    }
+    planner::load(p, file)
+}
+
+// 1 load and 7 load from rows: u16 length, bytes.
+fn load(p: Planner, from_rows: bool) -> After
     requires { ⌜ Sound p ⌝ }
     ensures { λ r. ⌜ Sound (r .planner) ⌝ }
 {
@@ -67,7 +80,7 @@ fn load(p: Planner) -> After
     if !input::fill(&mut bytes, n) {
         return end(p);
     }
-    let d = planner::load(p, input::front(&bytes, n));
+    let d = loaded(p, from_rows, input::front(&bytes, n));
     let a = d.answer;
     answered(d.planner, answers::of_load(a))
 }

@@ -34,7 +34,7 @@ use Rattle.claim.proofs.InForce.{sound, stands}
 pub every-call : EveryCall
 every-call calls p w =
     let s = sound w in
-    record { load = λ κs file. s; link = λ a b f x r. s; solve = λ κs cells output. s; check = λ κs plan. s }
+    record { load = λ κs file. s; load-rows = λ κs file. s; link = λ a b f x r. s; solve = λ κs cells output. s; check = λ κs plan. s }
 
 -- The query that stands in a sound planner is valid.
 standing-valid : (p : Planner) (q : Query) → Sound p → stateOf p ≡ some q → Valid q

@@ -19,6 +19,7 @@ use Rattle.planner.specs.declared.SolveAnswer.{SolveAnswer}
 use Rattle.planner.specs.Solve.{Answer, found, noRoute, refused, solveAdmitted}
 use Rattle.planner.specs.Contracts.{ofSolve}
 use Rattle.planner.proofs.load.Reads as Load
+use Rattle.planner.proofs.load_rows.Reads as Load-rows
 use Rattle.planner.proofs.link.Reads as Link
 use Rattle.planner.proofs.solve.Reads as Solve
 use Rattle.planner.proofs.check.Reads as Check
@@ -70,6 +71,7 @@ Ample =
 -- Every call may be made on every planner that a list of calls gives: what each function requires holds there, whatever the call brings.
 pub record Callable (p : Planner) : Type 0 where
   pub load : (κs : Lfts 1) (file : RefT (List ℕ)) → Load.Pre κs (p, (file, tt))
+  pub load-rows : (κs : Lfts 1) (file : RefT (List ℕ)) → Load-rows.Pre κs (p, (file, tt))
   pub link : (a b f x r : ℕ) → Link.Pre tt (p, (a, (b, (f, (x, (r, tt))))))
   pub solve : (κs : Lfts 2) (cells output : RefT (List ℕ)) → Solve.Pre κs (p, (cells, (output, tt)))
   pub check : (κs : Lfts 1) (plan : RefT (List ℕ)) → Check.Pre κs (p, (plan, tt))

@@ -11,6 +11,7 @@ use Rattle.query.specs.Query.{sitesOf}
 use Rattle.decoder.specs.Fields.{Read, value}
 use Rattle.decoder.specs.Fields as fields
 use Rattle.decoder.specs.Decode.{decode}
+use Rattle.decoder.specs.declared.Form.the-variants as form
 use Rattle.planner.specs.declared.Planner.{Planner}
 use Rattle.planner.specs.declared.AfterLoad.{AfterLoad}
 use Rattle.planner.specs.declared.AfterLink.{AfterLink}
@@ -19,6 +20,7 @@ use Rattle.planner.specs.declared.CheckAnswer.{CheckAnswer}
 use Rattle.planner.specs.Link.{Link, linkOf, sitesListed, termsInRange, relinedBy}
 use Rattle.planner.proofs.empty.Reads as Empty
 use Rattle.planner.proofs.load.Reads as Load
+use Rattle.planner.proofs.load_rows.Reads as Load-rows
 use Rattle.planner.proofs.link.Reads as Link-reads
 use Rattle.planner.proofs.solve.Reads as Solve
 use Rattle.planner.proofs.check.Reads as Check
@@ -26,11 +28,12 @@ use Rattle.planner.proofs.check.Reads as Check
 -- A call with its own arguments, input bytes and lent areas, with anything in them.
 pub data Call : Type 0 where
   load : (file : List ℕ) → Call
+  load-rows : (file : List ℕ) → Call
   link : (sender receiver opened fixed rate : ℕ) → Call
   solve : (cells output : List ℕ) → Call
   check : (plan : List ℕ) → Call
 
--- What a call does to the query in force. An admitted load puts its query in force.
+-- What a call does to the query in force. An admitted load of either form puts its query in force.
 abbrev pub afterLoad : Read Query → Option Query → Option Query
 afterLoad (fields.refused k) o = o
 afterLoad (value q l) o = some q
@@ -42,7 +45,8 @@ afterLink l (some q) = pick (sitesListed (sitesOf q) (l .sender) (l .receiver)) 
 
 -- Solve, check and every refused call leave it as it is.
 abbrev pub force : Call → Option Query → Option Query
-force (load file) o = afterLoad (decode file) o
+force (load file) o = afterLoad (decode form.Sizes file) o
+force (load-rows file) o = afterLoad (decode form.Rows file) o
 force (link a b f x r) o = afterLink (linkOf a b f x r) o
 force (solve cells output) o = o
 force (check plan) o = o
@@ -59,6 +63,9 @@ pub data Runs : List Call → Planner → Type 0 where
   loads :
       {calls : List Call} {p : Planner} (κs : Lfts 1) (file last : RefT (List ℕ)) (r : AfterLoad) →
       Runs calls p → Load.Post κs (p, (file, tt)) r (p, (last, tt)) → Runs (load (now file) ∷ calls) (r .planner)
+  loads-rows :
+      {calls : List Call} {p : Planner} (κs : Lfts 1) (file last : RefT (List ℕ)) (r : AfterLoad) →
+      Runs calls p → Load-rows.Post κs (p, (file, tt)) r (p, (last, tt)) → Runs (load-rows (now file) ∷ calls) (r .planner)
   links :
       {calls : List Call} {p : Planner} (a b f x r : ℕ) (d : AfterLink) →
       Runs calls p → Link-reads.Post tt (p, (a, (b, (f, (x, (r, tt)))))) d (p, (a, (b, (f, (x, (r, tt)))))) → Runs (link a b f x r ∷ calls) (d .planner)

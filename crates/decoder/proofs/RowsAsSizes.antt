@@ -16,7 +16,7 @@ use Rattle.decoder.specs.declared.Form.the-variants as form
 use Rattle.decoder.specs.Fields.{Read, value}
 use Rattle.decoder.specs.Decode.{sitesSection, relationsSection, joinsSection, sizesSection, countsSection, rowsSections}
 use Rattle.decoder.specs.Length.{beforeSizes, rowsLength}
-use Rattle.decoder.specs.Ordinary.{sizesBytes, ordinary}
+use Rattle.decoder.specs.Ordinary.{sizesBytes, linesFrom, ordinary}
 use Rattle.decoder.specs.Theorems.{RowsAsSizes}
 use Rattle.decoder.proofs.Gives.{Has, gives-then}
 use Rattle.decoder.proofs.RowRanges.{counts-in}
@@ -43,14 +43,14 @@ used-length size read l a r takes e s = omega (arith, rw e at (takes l), length-
 
 -- A list of five parts, with another part in the place of the fourth.
 replaced :
-    (a b c d new r : List ℕ) (k m : ℕ) → length (a ++ (b ++ c)) ≡ k → length d ≡ m →
-    take k (a ++ (b ++ (c ++ (d ++ r)))) ++ (new ++ drop (k + m) (a ++ (b ++ (c ++ (d ++ r))))) ≡ a ++ (b ++ (c ++ (new ++ r)))
+    (a b c d new r : List ℕ) (k m : ℕ) → length (a ++ (b ++ c)) ≡ k → k + length d ≡ m →
+    take k (a ++ (b ++ (c ++ (d ++ r)))) ++ (new ++ drop m (a ++ (b ++ (c ++ (d ++ r))))) ≡ a ++ (b ++ (c ++ (new ++ r)))
 replaced a b c d new r k m e f =
     let before : a ++ (b ++ (c ++ (d ++ r))) ≡ (a ++ (b ++ c)) ++ (d ++ r) = simp append-assoc in
     let through : a ++ (b ++ (c ++ (d ++ r))) ≡ ((a ++ (b ++ c)) ++ d) ++ r = simp append-assoc in
     let front : take k (a ++ (b ++ (c ++ (d ++ r)))) ≡ a ++ (b ++ c) = ap (take k) before ∙ take-at (a ++ (b ++ c)) (d ++ r) k e in
-    let back : drop (k + m) (a ++ (b ++ (c ++ (d ++ r)))) ≡ r =
-    ap (drop (k + m)) through ∙ drop-at ((a ++ (b ++ c)) ++ d) r (k + m) (omega (arith, length-append (a ++ (b ++ c)) d)) in
+    let back : drop m (a ++ (b ++ (c ++ (d ++ r)))) ≡ r =
+    ap (drop m) through ∙ drop-at ((a ++ (b ++ c)) ++ d) r m (omega (arith, length-append (a ++ (b ++ c)) d)) in
     rw (front, back) (simp append-assoc)
 
 module _ (file : List ℕ) (q : Query) (l : List ℕ) (v : Valid q) (p : Sections form.Rows file q l) where
@@ -87,8 +87,9 @@ module _ (file : List ℕ) (q : Query) (l : List ℕ) (v : Valid q) (p : Section
   ordinary-is : ordinary q file ≡ sites .used ++ (relations .used ++ (joins .used ++ (sizesBytes q ++ p .sizes-left)))
   unfolding ordinary
   ordinary-is =
-      ap (λ (m : List ℕ). take (beforeSizes q) m ++ (sizesBytes q ++ drop (beforeSizes q + rowsLength (relationsOf q)) m)) file-is
-      ∙ replaced (sites .used) (relations .used) (joins .used) (rows .used) (sizesBytes q) (p .sizes-left) _ _ used-before used-rows
+      ap (ordinary q) file-is
+      ∙ replaced (sites .used) (relations .used) (joins .used) (rows .used) (sizesBytes q) (p .sizes-left) (beforeSizes q) (linesFrom q) used-before
+      (omega (arith, used-rows))
 
   sizes-read : sizesSection (q .joins) (relationsOf q) (sizesBytes q ++ p .sizes-left) ≡ value (q .sizes) (p .sizes-left)
   sizes-read =

@@ -22,5 +22,9 @@ amounts q (suc k) S = pick (isSubquery (q .joins) (relationsOf q) S) (bytesOf 4 
 unfoldable pub sizesBytes : Query → List ℕ
 sizesBytes q = bytesOf 2 (subqueries (q .joins) (relationsOf q)) ++ amounts q (2 ^ relationsOf q) 0
 
+-- Where Rows and Divisors end and the lines begin.
+abbrev pub linesFrom : Query → ℕ
+linesFrom q = beforeSizes q + rowsLength (relationsOf q)
+
 unfoldable pub ordinary : Query → List ℕ → List ℕ
-ordinary q file = take (beforeSizes q) file ++ (sizesBytes q ++ drop (beforeSizes q + rowsLength (relationsOf q)) file)
+ordinary q file = take (beforeSizes q) file ++ (sizesBytes q ++ drop (linesFrom q) file)

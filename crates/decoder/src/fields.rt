@@ -2,7 +2,7 @@
 ghost use Prim.Native.Nat.{_≤_, _<_};
 ghost use mathlib.Core.Path.{_≡_};
 ghost use lib.ListN.{length, drop};
-ghost use Rattle.decoder.specs.Fields.{number, field, countField, byteBelow, amountUpTo, fromOneTo};
+ghost use Rattle.decoder.specs.Fields.{number, field, countField, byteBelow, amountUpTo};
 ghost use Rattle.decoder.specs.Code.{fieldOf, faultOf};
 
 // What a field holds, or the number of its refusal.
@@ -91,11 +91,4 @@ pub(crate) fn amount_up_to(part: &[u8], limit: u64) -> Field
     ensures { λ r. ⌜ r ≡ fieldOf (amountUpTo limit (now (part .entry))) ⌝ }
 {
     read_field(part, 4, 3, 0, limit)
-}
-
-// A number from 1 to a limit.
-pub(crate) fn from_one_to(part: &[u8], limit: u64) -> Field
-    ensures { λ r. ⌜ r ≡ fieldOf (fromOneTo limit (now (part .entry))) ⌝ }
-{
-    read_field(part, 4, 3, 1, limit)
 }

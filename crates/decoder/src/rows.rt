@@ -3,8 +3,8 @@ use crate::Form;
 use crate::fields::Field;
 use crate::fields::count_field;
 use crate::fields::fault;
-use crate::fields::from_one_to;
 use crate::fields::part_from;
+use crate::fields::read_field;
 use crate::sections::Ended;
 use crate::sections::Outcome;
 use crate::sizes::read_sizes;
@@ -39,7 +39,7 @@ fn read_counts(part: &[u8], due: usize, counts: &mut [u32; 9]) -> Ended
     let mut at = 1;
     let mut i = 0;
     while i < count {
-        let v = from_one_to(part_from(part, at), MOST_ROWS);
+        let v = read_field(part_from(part, at), 4, 3, 1, MOST_ROWS);
         let Field::Value(number) = v else {
             return Ended {
                 outcome: Outcome::Refused(fault(v)),

@@ -14,6 +14,7 @@ use Rattle.query.proofs.Choice.{pick-all}
 use Rattle.decoder.specs.Fields.{Read, value}
 use Rattle.decoder.specs.Fields as fields
 use Rattle.decoder.specs.Decode.{decode}
+use Rattle.decoder.specs.declared.Form.the-variants as form
 use Rattle.decoder.proofs.Refusals.{decode-refusals}
 use Rattle.decoder.proofs.Valid.{decode-valid}
 use Rattle.rules.specs.Allowed.{longestPlan}
@@ -21,7 +22,7 @@ use Rattle.rules.proofs.Combinations.{plus-combines}
 use Rattle.tables.specs.Tables.{cheapest, trials}
 use Rattle.tables.specs.Written.{written}
 use Rattle.tables.proofs.Upper.{written-most}
-use Rattle.planner.specs.Load.{load, loadDecoded}
+use Rattle.planner.specs.Load.{loadDecoded, loadBy}
 use Rattle.planner.specs.Solve.{Solving, writing, solved}
 use Rattle.planner.proofs.Cells.{solve-needed}
 use Rattle.fanchuki.specs.Served.{onSolved, onLoaded, serve, Number, plan, no-route, of-the-file, short-output, EveryNumber}
@@ -38,8 +39,8 @@ solved-number q valid Cost.none e out = no-route
 solved-number q valid (Cost.some c) e out = written-number c (trials q) (written _+_ q) out (omega arith) (written-most _+_ plus-combines q valid c e)
 
 pub every-number : EveryNumber
-unfolding serve load
-every-number query out = go (decode query) (decode-refusals query) (λ q l e. decode-valid query q l e)
+unfolding serve loadBy
+every-number query out = go (decode form.Sizes query) (decode-refusals form.Sizes query) (λ q l e. decode-valid form.Sizes query q l e)
   where
     go :
         (x : Read Query) → ((k : ℕ) → x ≡ fields.refused k → (1 ≤ k) × (k ≤ 5)) → ((q : Query) (l : List ℕ) → x ≡ value q l → Valid q) →

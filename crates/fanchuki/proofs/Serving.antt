@@ -13,6 +13,7 @@ use Rattle.query.proofs.Choice.{pick-all}
 use Rattle.decoder.specs.Fields.{Read, value}
 use Rattle.decoder.specs.Fields as fields
 use Rattle.decoder.specs.Decode.{decode}
+use Rattle.decoder.specs.declared.Form.the-variants as form
 use Rattle.decoder.proofs.Refusals.{decode-refusals}
 use Rattle.tables.specs.Tables.{cheapest}
 use Rattle.tables.specs.Written.{written}
@@ -21,7 +22,7 @@ use Rattle.planner.specs.declared.Planner.{Planner}
 use Rattle.planner.specs.declared.LoadAnswer.{LoadAnswer}
 use Rattle.planner.specs.declared.SolveAnswer.{SolveAnswer}
 use Rattle.planner.specs.State.{State}
-use Rattle.planner.specs.Load.{loaded, load, loadDecoded}
+use Rattle.planner.specs.Load.{loaded, load, loadDecoded, loadBy}
 use Rattle.planner.specs.Load as Load
 use Rattle.planner.specs.Solve.{found, noRoute, Solving, solvingOf, solved, solve, needed}
 use Rattle.planner.specs.Solve as Solve
@@ -56,8 +57,8 @@ loadRefusal (loaded n m) = 0
 loadRefusal (Load.refused k) = k
 
 load-low : (file : List ℕ) (s : State) → loadRefusal (load file s .answer) ≤ 255
-unfolding load
-load-low file s = go (decode file) (decode-refusals file)
+unfolding loadBy
+load-low file s = go (decode form.Sizes file) (decode-refusals form.Sizes file)
   where
     go : (x : Read Query) → ((k : ℕ) → x ≡ fields.refused k → (1 ≤ k) × (k ≤ 5)) → loadRefusal (loadDecoded x s .answer) ≤ 255
     go (fields.refused k) h = omega (arith, h k refl)

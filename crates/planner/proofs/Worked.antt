@@ -5,7 +5,9 @@ use Rattle.relations.specs.Sets.{bit, put}
 use Rattle.relations.specs.Growth.{inside, leads, step, grow}
 use Rattle.relations.specs.Trees.{isSubquery, countBelow, reaches, part}
 use Rattle.decoder.specs.Fields.{number, field, items, storing, section}
-use Rattle.decoder.specs.Decode.{terms, two, sitesSection, relationsSection, joinsSection, sized, sizesSection, line, sender, linesSection, deliverySection, decode}
+use Rattle.decoder.specs.Decode.{terms, two, sitesSection, relationsSection, joinsSection, sized, sizesSection, line, sender, linesSection, deliverySection, countsSection, rowsSections, decode}
+use Rattle.decoder.specs.Ordinary.{bytesOf, amounts, sizesBytes, ordinary}
+use Rattle.sizing.specs.Worked.{lowestWhere, links, joinTo, mayJoinIn, next, takenAfter, joinedSize, sizeAfter, workedSize, sizesBelow, workedSizes}
 use Rattle.query.specs.Query.{home, index, mayJoin, joinFixed, joinRate, isOpen, lineFixed, lineRate, size}
 use Rattle.query.specs.Prices.{parcels, linePrice, carriage, reads, joinPrice, indexed}
 use Rattle.query.specs.Prices as prices
@@ -15,18 +17,20 @@ use Rattle.tables.specs.Least.{best}
 use Rattle.tables.specs.Tables.{byJoin, joinedBy, deliveredBy, deliveredUpTo, delivered, joined, joinsBelow}
 use Rattle.tables.specs.Written.{bestSite, bestJoin, joinedSteps, deliveredSteps, stepsUpTo, writtenDelivered}
 use Rattle.tables.specs.Work.{cellsNeeded}
-use Rattle.planner.specs.Load.{load}
+use Rattle.planner.specs.Load.{loadBy}
 use Rattle.planner.specs.Link.{sitesListed, termsInRange, link}
 use Rattle.planner.specs.Solve.{solve}
 use Rattle.planner.specs.Check.{check}
 use Rattle.planner.specs.Worked.{Worked}
 
 pub worked : Worked
-unfolding ones onesIn trailingZeros bit put inside leads step grow isSubquery countBelow reaches part number field items storing section terms two sitesSection relationsSection joinsSection sized sizesSection line sender linesSection deliverySection decode home index mayJoin joinFixed joinRate isOpen lineFixed lineRate size parcels linePrice carriage prices.read reads joinPrice indexed machine.load machine.sendTop machine.send machine.links machine.spared machine.joinTop machine.join machine.step plans.finish plans.run plans.checked best byJoin joinedBy deliveredBy deliveredUpTo delivered joined joinsBelow bestSite bestJoin joinedSteps deliveredSteps stepsUpTo writtenDelivered cellsNeeded load sitesListed termsInRange link solve check
+unfolding ones onesIn trailingZeros bit put inside leads step grow isSubquery countBelow reaches part number field items storing section terms two sitesSection relationsSection joinsSection sized sizesSection line sender linesSection deliverySection countsSection rowsSections decode bytesOf amounts sizesBytes ordinary lowestWhere links joinTo mayJoinIn next takenAfter joinedSize sizeAfter workedSize sizesBelow workedSizes home index mayJoin joinFixed joinRate isOpen lineFixed lineRate size parcels linePrice carriage prices.read reads joinPrice indexed machine.load machine.sendTop machine.send machine.links machine.spared machine.joinTop machine.join machine.step plans.finish plans.run plans.checked best byJoin joinedBy deliveredBy deliveredUpTo delivered joined joinsBelow bestSite bestJoin joinedSteps deliveredSteps stepsUpTo writtenDelivered cellsNeeded loadBy sitesListed termsInRange link solve check
 worked = record {
   q-length = refl;
   q-decoded = refl;
+  q-ordinary = refl;
   load-q = refl;
+  load-rows-q = refl;
   solve-q = refl;
   solve-q-just = refl;
   check-q = refl;
@@ -52,6 +56,15 @@ worked = record {
   load-3 = refl;
   load-4 = refl;
   load-5 = refl;
+  load-rows-1 = refl;
+  load-rows-2 = refl;
+  load-rows-2-divisors = refl;
+  load-rows-3 = refl;
+  load-rows-3-divisor = refl;
+  load-rows-4 = refl;
+  load-rows-5 = refl;
+  load-of-rows = refl;
+  load-rows-of-sizes = refl;
   link-6 = refl;
   link-6-twice = refl;
   link-3 = refl;

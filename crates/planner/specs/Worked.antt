@@ -4,10 +4,12 @@ use Prim.Native.Nat.{ℕ}
 use mathlib.Core.Path.{_≡_}
 use mathlib.Core.List.{List, [], _∷_, _++_}
 use mathlib.Core.Option.{none, some}
-use lib.ListN.{length, take, set, replicate}
+use lib.ListN.{length, take, drop, set, replicate}
 use Rattle.query.specs.declared.Query.{Query}
 use Rattle.decoder.specs.Fields.{value}
+use Rattle.decoder.specs.declared.Form.the-variants as form
 use Rattle.decoder.specs.Decode.{decode}
+use Rattle.decoder.specs.Ordinary.{ordinary}
 use Rattle.tables.specs.Rows.{Q, withLines, closing}
 use Rattle.planner.specs.Done.{doneWith}
 use Rattle.planner.specs.Load as Load
@@ -46,6 +48,10 @@ qBytes =
     -- Delivery, count 1: site 0.
     ∷ 1 ∷ 0 ∷ []
 
+-- Q from row counts: in place of the sizes rows 10 and 4, and divisor 16, by which 10 × 4 comes to 3.
+abbrev pub qRows : List ℕ
+qRows = take 36 qBytes ++ ((2 ∷ 10 ∷ 0 ∷ 0 ∷ 0 ∷ 4 ∷ 0 ∷ 0 ∷ 0 ∷ 1 ∷ 16 ∷ 0 ∷ 0 ∷ 0 ∷ []) ++ drop 50 qBytes)
+
 -- The plan that the pinned table prints: load 0, load 1, send 0, join 0.
 abbrev pub qPlan : List ℕ
 qPlan = 4 ∷ 1 ∷ 0 ∷ 1 ∷ 1 ∷ 2 ∷ 0 ∷ 3 ∷ 0 ∷ []
@@ -63,9 +69,12 @@ row6 = withLines (closing 2 0 (row5 .lines)) Q
 pub record Worked : Type 0 where
   -- The file has 107 bytes, and what it holds is Q, nothing left.
   pub q-length : length qBytes ≡ 107
-  pub q-decoded : decode qBytes ≡ value Q []
-  -- From an empty planner: load; solve into 12 bytes, whose rest stays, and into 9, which are just enough; check.
+  pub q-decoded : decode form.Sizes qBytes ≡ value Q []
+  -- Q's file is the ordinary one of what comes of its row counts.
+  pub q-ordinary : ordinary Q qRows ≡ qBytes
+  -- From an empty planner: load, from row counts too; solve into 12 bytes, whose rest stays, and into 9, which are just enough; check.
   pub load-q : Load.load qBytes none ≡ doneWith (Load.loaded 2 3) (some Q)
+  pub load-rows-q : Load.loadRows qRows none ≡ doneWith (Load.loaded 2 3) (some Q)
   pub solve-q : Solve.solve 4_096 (replicate 12 7) (some Q) ≡ solvingOf (Solve.found 21 9 3) (qPlan ++ (7 ∷ 7 ∷ 7 ∷ []))
   pub solve-q-just : Solve.solve 5_000 (replicate 9 7) (some Q) ≡ solvingOf (Solve.found 21 9 3) qPlan
   pub check-q : Check.check qPlan (some Q) ≡ Check.allowed 21
@@ -97,6 +106,17 @@ pub record Worked : Type 0 where
   pub load-3 : Load.load (set qBytes 1 2) (some Q) ≡ doneWith (Load.refused 3) (some Q)
   pub load-4 : Load.load (set qBytes 35 0) (some Q) ≡ doneWith (Load.refused 4) (some Q)
   pub load-5 : Load.load (qBytes ++ (0 ∷ [])) (some Q) ≡ doneWith (Load.refused 5) (some Q)
+  -- From row counts: the last byte is cut; three rows; two divisors; a row count of 0; a divisor of 0; join 0 links 0 with itself, whatever the count of
+  -- the rows; a byte follows. A file of the other form has another count than the stated one.
+  pub load-rows-1 : Load.loadRows (take 106 qRows) (some Q) ≡ doneWith (Load.refused 1) (some Q)
+  pub load-rows-2 : Load.loadRows (set qRows 36 3) (some Q) ≡ doneWith (Load.refused 2) (some Q)
+  pub load-rows-2-divisors : Load.loadRows (set qRows 45 2) (some Q) ≡ doneWith (Load.refused 2) (some Q)
+  pub load-rows-3 : Load.loadRows (set qRows 37 0) (some Q) ≡ doneWith (Load.refused 3) (some Q)
+  pub load-rows-3-divisor : Load.loadRows (set qRows 46 0) (some Q) ≡ doneWith (Load.refused 3) (some Q)
+  pub load-rows-4 : Load.loadRows (set (set qRows 35 0) 36 3) (some Q) ≡ doneWith (Load.refused 4) (some Q)
+  pub load-rows-5 : Load.loadRows (qRows ++ (0 ∷ [])) (some Q) ≡ doneWith (Load.refused 5) (some Q)
+  pub load-of-rows : Load.load qRows (some Q) ≡ doneWith (Load.refused 2) (some Q)
+  pub load-rows-of-sizes : Load.loadRows qBytes (some Q) ≡ doneWith (Load.refused 2) (some Q)
   -- Link: an unlisted site, whatever the flag; one site twice; a rate of 1,001.
   pub link-6 : Link.link (linkOf 3 0 2 1 1) (some Q) ≡ doneWith (Link.refused 6) (some Q)
   pub link-6-twice : Link.link (linkOf 1 1 0 1 1) (some Q) ≡ doneWith (Link.refused 6) (some Q)

@@ -1,16 +1,13 @@
-// The calls. The state goes in by value; load and link, which may change it, hand it back, and a refusal hands back what came in.
+// The calls but for the loads. The state goes in by value; link, which may change it, hands it back, and a refusal hands back what came in.
 use crate::AfterLink;
-use crate::AfterLoad;
 use crate::CELLS;
 use crate::CheckAnswer;
 use crate::LONGEST_PLAN;
 use crate::LinkAnswer;
-use crate::LoadAnswer;
 use crate::Planner;
 use crate::SolveAnswer;
 use decoder::MOST_FIXED;
 use decoder::MOST_RATE;
-use decoder::Outcome;
 use query::Query;
 use rules::Checked;
 use solver::Solution;
@@ -18,11 +15,10 @@ ghost use Prim.Native.Nat.{_≤_, _<_};
 ghost use mathlib.Core.Path.{_≡_};
 ghost use mathlib.Core.Option.{none};
 ghost use lib.ListN.{length, drop};
-ghost use Rattle.planner.specs.Load.{load};
 ghost use Rattle.planner.specs.Link.{link, linkOf, sitesListed, termsInRange, relinedBy};
 ghost use Rattle.planner.specs.Solve.{solvingOf, solve, used};
 ghost use Rattle.planner.specs.Check.{check};
-ghost use Rattle.planner.specs.Contracts.{stateOf, doneOf, ofLoad, ofLink, ofSolve, ofCheck, Sound};
+ghost use Rattle.planner.specs.Contracts.{stateOf, doneOf, ofLink, ofSolve, ofCheck, Sound};
 
 // The empty planner: nothing stands.
 pub fn empty() -> Planner
@@ -31,35 +27,6 @@ pub fn empty() -> Planner
     Planner {
         loaded: false,
         query: query::no_query(),
-    }
-}
-
-// Load: replaces the query; answers the number of relations and of subqueries.
-pub fn load(p: Planner, file: &[u8]) -> AfterLoad
-    requires { ⌜ Sound p ⌝ }
-    ensures done { λ r. ⌜ doneOf (ofLoad (r .answer)) (r .planner) ≡ load (now (file .entry)) (stateOf p) ⌝ }
-    ensures sound { λ r. ⌜ Sound (r .planner) ⌝ }
-{
-    let d = decoder::decode(file);
-    let o = d.outcome;
-    match o {
-        Outcome::Refused(k) => AfterLoad {
-            answer: LoadAnswer::Refused(k),
-            planner: p,
-        },
-        Outcome::Whole => {
-            let q = d.query;
-            AfterLoad {
-                answer: LoadAnswer::Loaded {
-                    relations: q.relations.count as u64,
-                    subqueries: d.subqueries as u64,
-                },
-                planner: Planner {
-                    loaded: true,
-                    query: q,
-                },
-            }
-        }
     }
 }
 

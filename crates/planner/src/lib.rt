@@ -1,11 +1,13 @@
-// The planner: the standing state and the calls load, link, solve and check.
+// The planner: the standing state, the two loads, and the calls link, solve and check.
 mod calls;
+mod loads;
 
 pub use calls::check;
 pub use calls::empty;
 pub use calls::link;
-pub use calls::load;
 pub use calls::solve;
+pub use loads::load;
+pub use loads::load_rows;
 use query::Charge;
 use query::Query;
 pub use rules::LONGEST_PLAN;
@@ -20,7 +22,7 @@ pub struct Planner {
     query: Query,
 }
 
-// What load answers: the number of relations and of subqueries, or the refusal's number.
+// What a load answers: the number of relations and of subqueries, or the refusal's number.
 pub enum LoadAnswer {
     Loaded { relations: u64, subqueries: u64 },
     Refused(u64),

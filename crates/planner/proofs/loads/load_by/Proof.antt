@@ -1,10 +1,10 @@
 use Rattle.planner.proofs.Loading.{loading}
 use borrow.Author.Needs.{needs}
-use Rattle.planner.proofs.calls.load.Statement.{statement}
-use Rattle.planner.proofs.calls.load.Tie as tie
+use Rattle.planner.proofs.loads.load_by.Statement.{statement}
+use Rattle.planner.proofs.loads.load_by.Tie as tie
 
-pub load-spec : {M : Type 1} → statement M
-load-spec =
+pub load-by-spec : {M : Type 1} → statement M
+load-by-spec =
     tie.close
     (tie.spec
     (λ c κs. search needs)
