@@ -5,18 +5,17 @@ use native.Mathlib.Omega.{arith}
 use mathlib.Core.Path.{_≡_, refl, sym, ap, subst, _∙_}
 use mathlib.Core.List.{List}
 use mathlib.Core.Logic.{inl, inr}
-use lib.Bits.{bitAnd, and-le-r}
+use lib.Bits.{bitAnd}
 use lib.Count.{ones}
 use lib.ListN.{getD}
 use lib.Pow.{pow-lt, pow-mono, pow-pos}
-use mir.Syntax.{w16, w64}
+use mir.Syntax.{w64}
 use mir.Val.{Fits}
 use Rattle.relations.specs.Code.{mostSets}
 use Rattle.relations.specs.declared.Joins.{Joins}
 use Rattle.relations.proofs.Counts.{ones-pow, lowest-pow}
 use Rattle.sizing.specs.Worked.{sizeAfter, workedSize}
 use Rattle.sizing.specs.Code.{neighbours, above, Waiting, Lists, Long, Right, Begun, Startable}
-use Rattle.sizing.proofs.Members.{above-low}
 use Rattle.sizing.proofs.Extending.{single-waiting}
 use Rattle.sizing.proofs.Lists.{stored, stored-long, stored-right, still-right, each-stored}
 
@@ -74,8 +73,3 @@ module _ (J : Joins) (near : List ℕ) (old : Lists) (a : Startable J near old) 
 
   pub single-place : (X : ℕ) → X ≡ 2 ^ r → X < mostSets
   single-place X e = place-in (J .count + 1) X (omega (arith, a .few)) (single-in X e .1 .1)
-
-  pub near-fits : (X up : ℕ) → X ≡ 2 ^ r → up ≡ above (J .count + 1) X → Fits w16 (bitAnd (getD near r 0) up)
-  near-fits X up e q =
-      let below : up < 2 ^ (J .count + 1) = rw q (above-low (J .count + 1) X (single-in X e .1 .0) (single-in X e .1 .1)) in
-      record { fits = omega (arith, and-le-r (getD near r 0) up, pow-mono {i = J .count + 1} {j = 9} (single-in X e .0)) }

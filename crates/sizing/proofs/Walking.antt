@@ -9,7 +9,7 @@ use lib.Bits.{bitOr, bitAnd}
 use lib.Count.{trailingZeros}
 use lib.ListN.{getD}
 use lib.Pow.{pow-mono}
-use mir.Syntax.{w16, w64}
+use mir.Syntax.{w64}
 use mir.Val.{Fits}
 use Rattle.relations.specs.Code.{mostSets}
 use Rattle.relations.specs.declared.Joins.{Joins}
@@ -50,9 +50,6 @@ module _ (J : Joins) (table rows divisors near : List ℕ) (S : ℕ) (old : List
 
   pub set-in : (0 < S) × (S < 2 ^ n) × (S < mostSets)
   set-in = let range = subquery-range J n S (a .subquery) in (range .0, range .1, place-in n S nine (range .1))
-
-  pub waiting-word : Fits w64 (getD (old .waiting) S 0)
-  waiting-word = record { fits = omega (arith, a .right .waiting .low, pow-mono {i = n} {j = 9} nine) }
 
   pub extending-none : (left : ℕ) → left ≡ getD (old .waiting) S 0 → Extending J n rows divisors S old old left
   extending-none left e = record {
@@ -141,9 +138,6 @@ module _ (J : Joins) (table rows divisors near : List ℕ) (S : ℕ) (old : List
       new-waiting one X up e q u =
           rw (q, e, u) (more-waiting J n (a .tabled .tree) S (a .subquery) r next-waits (getD (old .waiting) S 0) (left - 2 ^ r) (getD near r 0) (a .right .waiting)
           (from-next (getD (old .waiting) S 0) left (x .at) (x .from) some word (2 ^ r) refl) (a .near-is .each r (next-waits .in-all)))
-
-      pub waiting-fits : (one X up : ℕ) → one ≡ 2 ^ r → X ≡ S + one → up ≡ above n S → Fits w16 (bitOr (left - one) (bitAnd (getD near r 0) up))
-      waiting-fits one X up e q u = record { fits = omega (arith, new-waiting one X up e q u .low, pow-mono {i = n} {j = 9} nine) }
 
       pub extending-next :
           (one X held now size up : ℕ) → one ≡ 2 ^ r → X ≡ S + one → held ≡ getD table S 0 % 256 → now ≡ getD table X 0 % 256 →

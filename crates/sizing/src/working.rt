@@ -32,7 +32,7 @@ fn begin(
     joins: Joins,
     rows: &[u32; 9],
     near: &[usize; 9],
-    waiting: &mut [u16; SETS],
+    waiting: &mut [usize; SETS],
     sizes: &mut [u32; SETS],
 )
     requires { ⌜ Startable joins (now near) (listsOf (now sizes) (now waiting)) ⌝ }
@@ -44,7 +44,7 @@ fn begin(
     while r <= joins.count {
         let set = single(r);
         sizes[set] = rows[r];
-        waiting[set] = (near[r] & above(joins.count + 1, set)) as u16;
+        waiting[set] = near[r] & above(joins.count + 1, set);
         r += 1;
     }
 }
@@ -56,7 +56,7 @@ fn extend(
     rows: &[u32; 9],
     divisors: &[u32; 9],
     near: &[usize; 9],
-    waiting: &mut [u16; SETS],
+    waiting: &mut [usize; SETS],
     sizes: &mut [u32; SETS],
     set: usize,
 )
@@ -67,7 +67,7 @@ fn extend(
 {
     let size = sizes[set];
     let held = joins_in(table[set]);
-    let mut left = waiting[set] as usize;
+    let mut left = waiting[set];
     while left != 0 {
         let r = usize::trailing_zeros(left) as usize;
         let one = single(r);
@@ -75,8 +75,7 @@ fn extend(
         let more = set + one;
         let e = usize::trailing_zeros(joins_in(table[more]) - held) as usize;
         sizes[more] = joined_size(size, rows[r], divisors[e]);
-        let new = near[r] & above(joins.count + 1, set);
-        waiting[more] = (left | new) as u16;
+        waiting[more] = left | near[r] & above(joins.count + 1, set);
     }
 }
 
@@ -94,7 +93,7 @@ pub fn work_out(
     ensures { λ r. ⌜ now (sizes .exit) ≡ workedSizes joins (joins .count + 1) (now (rows .entry)) (now (divisors .entry)) ⌝ }
 {
     let near = neighbours(joins);
-    let mut waiting = [0u16; SETS];
+    let mut waiting = [0usize; SETS];
     begin(joins, rows, &near, &mut waiting, &mut *sizes);
     let mut set = 1;
     while set < single(joins.count + 1) {

@@ -5,7 +5,7 @@ use mathlib.Core.Path.{refl}
 use native.Mathlib.Omega.{arith}
 use borrow.Author.Needs.{needs}
 use Rattle.sizing.specs.Code.{listsOf, Begun, Startable}
-use Rattle.sizing.proofs.Beginning.{begun-none, begun-next, begun-all, single-in, single-word, near-fits, single-place, place-scaled}
+use Rattle.sizing.proofs.Beginning.{begun-none, begun-next, begun-all, single-in, single-word, single-place, place-scaled}
 use Rattle.sizing.proofs.working.begin.Statement.{statement}
 use Rattle.sizing.proofs.working.begin.Tie as tie
 
@@ -35,7 +35,6 @@ begin-spec =
     (λ c κs.
     let s = c .before .before .before in let i = s .before .before .before in
     single-in _ _ _ (i .loop .inv .0) _ (s .before .if1 .taken) _ (s .single .ensures))
-    (λ c. search (needs, near-fits))
     (λ c.
     let s = c .before .before .before .before in let i = s .before .before .before in
     place-scaled _ _ (single-place _ _ _ (i .loop .inv .0) _ (s .before .if1 .taken) _ (s .single .ensures)) (omega arith))

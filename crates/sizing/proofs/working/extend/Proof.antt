@@ -6,8 +6,8 @@ use borrow.Author.Needs.{needs}
 use Rattle.query.proofs.Indexed.{place-fits}
 use Rattle.sizing.specs.Code.{listsOf, Extendable}
 use Rattle.sizing.proofs.Beginning.{place-scaled}
-use Rattle.sizing.proofs.Walking.{Extending, set-in, waiting-word, above-asks, next-low, next-within, next-less, more-place, more-word}
-use Rattle.sizing.proofs.Walking.{join-there, join-few, joined-asks, waiting-fits, extending-none, extending-next, extending-done}
+use Rattle.sizing.proofs.Walking.{Extending, set-in, above-asks, next-low, next-within, next-less, more-place, more-word}
+use Rattle.sizing.proofs.Walking.{join-there, join-few, joined-asks, extending-none, extending-next, extending-done}
 use Rattle.sizing.proofs.working.extend.Statement.{statement}
 use Rattle.sizing.proofs.working.extend.Tie as tie
 
@@ -32,7 +32,6 @@ extend-spec =
     (λ c κs. search needs)
     (λ c. place-scaled _ _ (set-in _ _ _ _ _ _ _ (c .before .before .before .pre) .2) (omega arith))
     (λ c. set-in _ _ _ _ _ _ _ (c .before .before .before .pre) .2)
-    (λ c. waiting-word _ _ _ _ _ _ _ (c .before .before .before .before .pre))
     (λ c. (c .before .before .before .before .pre, extending-none _ _ _ _ _ _ _ (c .before .before .before .before .pre) _ refl))
     (λ c. place-fits _)
     (λ c κs. omega (arith, next-low _ _ _ _ _ _ _ (c .before .loop .inv .0) _ _ (c .before .loop .inv .1) (c .loop-test .taken)))
@@ -69,8 +68,6 @@ extend-spec =
     (λ c. search needs)
     (λ c κs. let k = c .before .before .before .before .before in let s = k .before .before in let i = s .before .before in
     above-asks _ _ _ _ _ _ _ (i .loop .inv .0))
-    (λ c. let k = c .before .before .before .before .before .before in let s = k .before .before in let i = s .before .before in
-    waiting-fits _ _ _ _ _ _ _ (i .loop .inv .0) _ _ (i .loop .inv .1) (s .before .loop-test .taken) _ _ _ (s .single .ensures) refl (c .above .ensures))
     (λ c. let k = c .before .before .before .before .before .before in let s = k .before .before in let i = s .before .before in
     place-scaled _ _ (more-place _ _ _ _ _ _ _ (i .loop .inv .0) _ _ (i .loop .inv .1) (s .before .loop-test .taken) _ _ (s .single .ensures) refl) (omega arith))
     (λ c. let k = c .before .before .before .before .before .before in let s = k .before .before in let i = s .before .before in
