@@ -29,8 +29,8 @@ own_tests() {
 }
 
 examples_packed() {
-    for file in examples/*.query; do
-        reference querytext pack <"${file%.query}.txt" | cmp - "$file"
+    for file in examples/*.query examples/*.rows; do
+        reference querytext pack <"${file%.*}.txt" 2>/dev/null | cmp - "$file"
     done
 }
 
