@@ -118,6 +118,16 @@ single-apart A k h r = go (pow-cases k r)
     go (inl (e, one)) = omega (arith, ap (λ (x : ℕ). bit A x) e)
     go (inr none) = omega (arith, bit-le A r)
 
+-- One relation more.
+pub bit-more : (A k : ℕ) → bit A k ≡ 0 → (r : ℕ) → bit (A + 2 ^ k) r ≡ bit A r + bit (2 ^ k) r
+bit-more A k h = bit-add A (2 ^ k) (single-apart A k h)
+
+pub sub-more : (A k : ℕ) → bit A k ≡ 0 → Sub A (A + 2 ^ k)
+sub-more A k h r = omega (arith, bit-more A k h r)
+
+pub more-cases : (A k : ℕ) → bit A k ≡ 0 → (r : ℕ) → bit (A + 2 ^ k) r ≡ 1 → (bit A r ≡ 1) ⊎ (k ≡ r)
+more-cases A k h r one = elim (pow-cases k r) [ inl (e, here) ↦ inr e | inr none ↦ inl (omega (arith, bit-more A k h r)) ]
+
 -- Sets below 2^n have their members below n, and the set of all holds each.
 pub bit-high : (S n r : ℕ) → S < 2 ^ n → n ≤ r → bit S r ≡ 0
 unfolding bit

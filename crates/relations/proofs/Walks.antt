@@ -2,7 +2,7 @@
 use Prim.Native.Nat.{ℕ, _+_, _-_, _^_, _≤_, _<_}
 use native.Mathlib.Omega.{arith}
 use native.Mathlib.Decide.{decLt}
-use mathlib.Core.Path.{_≡_, refl, sym, ap, _∙_}
+use mathlib.Core.Path.{_≡_, sym, ap, _∙_}
 use lib.Pow.{pow-pos}
 use Rattle.relations.specs.Sets.{bit, lowest}
 use Rattle.relations.proofs.Bits.{bit-none, bit-sub, bit-pow, bit-pow-other, sub-single, le-of-sub}

@@ -2,7 +2,7 @@
 use Prim.Native.Nat.{ℕ, _+_, _^_, _≤_, _<_}
 use native.Mathlib.Decide.{decLt}
 use native.Mathlib.Omega.{arith}
-use mathlib.Core.Path.{_≡_, refl}
+use mathlib.Core.Path.{_≡_, refl, sym, ap, _∙_}
 use mathlib.Core.Bool.{Bool, true, false, _&&_, _||_}
 use mathlib.Core.Logic.{_⊎_, inl, inr}
 use lib.Dec.{eqb, ltb}
@@ -10,7 +10,7 @@ use borrow.Author.Tests.{eqb-true, eq-eqb, ltb-true, lt-ltb}
 use Rattle.relations.specs.declared.Joins.{Joins}
 use Rattle.relations.specs.Sets.{bit, Sub}
 use Rattle.relations.specs.Growth.{first, second}
-use Rattle.relations.proofs.Bits.{bit-le, bit-add, single-apart}
+use Rattle.relations.proofs.Bits.{bit-le, bit-pow, more-cases}
 use Rattle.relations.proofs.Leads.{never-both, both-true, true-both}
 use Rattle.sizing.specs.Worked.{lowestWhere, links, joinTo, mayJoinIn, next}
 use Rattle.sizing.specs.Code.{Adjacent}
@@ -58,10 +58,7 @@ adjacent-more J A B r s (e, l, h) = (e, l, links-more J A B r e s h)
 
 module _ (J : Joins) (T c : ℕ) (out : bit T c ≡ 0) where
   here : (x : ℕ) → bit (T + 2 ^ c) x ≡ 1 → (bit T x ≡ 1) ⊎ (bit (2 ^ c) x ≡ 1)
-  here x h = elim (decLt (bit T x) 1) [
-    | yes l ↦ inr (omega (arith, bit-add T (2 ^ c) (single-apart T c out) x))
-    | no l ↦ inl (omega (arith, bit-le T x))
-  ]
+  here x h = elim (more-cases T c out x h) [ inl p ↦ inl p | inr e ↦ inr (ap (bit (2 ^ c)) (sym e) ∙ bit-pow c) ]
 
   pub adjacent-either : (r : ℕ) → Adjacent J (T + 2 ^ c) r → Adjacent J T r ⊎ Adjacent J (2 ^ c) r
   adjacent-either r (e, l, h) = go (linked J (T + 2 ^ c) r e h)

@@ -1,6 +1,6 @@
 -- Two subqueries whose first steps are alike have the same relations taken, and the same size, as far as that goes. So it is with what a subquery has
 -- taken after some steps, as a subquery by itself: the worked size of a subquery is one step from that of the one without its last relation.
-use Prim.Native.Nat.{ℕ, zero, suc, _-_, _^_, _≤_, _<_}
+use Prim.Native.Nat.{ℕ, zero, suc, _-_, _≤_, _<_}
 use native.Mathlib.Omega.{arith}
 use mathlib.Core.Path.{_≡_, ap, _∙_}
 use mathlib.Core.List.{List}
@@ -8,7 +8,7 @@ use lib.Count.{ones}
 use Rattle.relations.specs.declared.Joins.{Joins}
 use Rattle.relations.specs.Sets.{bit, lowest}
 use Rattle.relations.specs.Trees.{Tree, Subquery}
-use Rattle.relations.proofs.Bits.{bit-le, bit-add, bit-pow, single-apart}
+use Rattle.relations.proofs.Bits.{bit-le, bit-more, bit-pow}
 use Rattle.relations.proofs.Counts.{lowest-least, lowest-is}
 use Rattle.relations.proofs.Connected.{subquery-range}
 use Rattle.sizing.specs.Worked.{next, takenAfter, sizeAfter}
@@ -49,7 +49,7 @@ module _ (J : Joins) (n : ℕ) (t : Tree J n) (S : ℕ) (s : Subquery J n S) (k 
       let T = takenAfter J n S j in
       let r = next J n S T in
       let in-next : bit (takenAfter J n S (suc j)) r ≡ 1 =
-      ap (λ (x : ℕ). bit x r) (m .sum) ∙ omega (arith, bit-add T (2 ^ r) (single-apart T r (m .is-ready .free)) r, bit-pow r, m .is-ready .free) in
+      ap (λ (x : ℕ). bit x r) (m .sum) ∙ omega (arith, bit-more T r (m .is-ready .free) r, bit-pow r, m .is-ready .free) in
       omega (arith, taken-upto J n S (suc j) k l r, bit-le (takenAfter J n S k) r)
 
   pub front-alike : Alike J n S (takenAfter J n S k) k

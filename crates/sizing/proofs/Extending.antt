@@ -10,7 +10,7 @@ use lib.Pow.{lt-of-le-ones, pow-pos, pow-lt}
 use Rattle.relations.specs.declared.Joins.{Joins}
 use Rattle.relations.specs.Sets.{bit, all, lowest}
 use Rattle.relations.specs.Trees.{Tree, Subquery}
-use Rattle.relations.proofs.Bits.{bit-le, bit-or, bit-and, bit-add, bit-pow-other, single-apart, le-of-sub, bit-all}
+use Rattle.relations.proofs.Bits.{bit-le, bit-or, bit-and, bit-pow-other, le-of-sub, bit-all, bit-more}
 use Rattle.relations.proofs.Counts.{lowest-pow}
 use Rattle.relations.proofs.Connected.{subquery-range}
 use Rattle.relations.proofs.Walks.{From}
@@ -53,9 +53,6 @@ module _ (J : Joins) (n : ℕ) (t : Tree J n) where
           omega (arith, bit-and near (above n (2 ^ r)) c, above-of n (2 ^ r) some below c (w .in-all) (w .out) (w .higher))
 
   module _ (S : ℕ) (s : Subquery J n S) (r : ℕ) (w : Waits J n S r) where
-    sums : (x : ℕ) → bit (S + 2 ^ r) x ≡ bit S x + bit (2 ^ r) x
-    sums = bit-add S (2 ^ r) (single-apart S r (w .out))
-
     -- For S and r wait those above r that wait for S, and the neighbours of r that are above the lowest relation.
     pub more-waiting :
         (E left near : ℕ) → Waiting J n S E → From E left (r + 1) → near ≡ neighbours J r →
@@ -86,7 +83,7 @@ module _ (J : Joins) (n : ℕ) (t : Tree J n) where
                 let m = above-means n S (range .0) (range .1) c q in
                 let a = near-means J r c (J .count) (ap (λ (x : ℕ). bit x c) (sym e) ∙ p) in
                 let other : r ≡ c → ⊥ = λ z. not-own J n t r (subst (λ (x : ℕ). Adjacent J (2 ^ r) x) (sym z) a) in
-                waits-neighbour J n t S s r w c (m .0) (omega (arith, sums c, m .1, bit-pow-other r c other)) (m .2) a
+                waits-neighbour J n t S s r w c (m .0) (omega (arith, bit-more S r (w .out) c, m .1, bit-pow-other r c other)) (m .2) a
 
         from : (c : ℕ) → Waits J n (S + 2 ^ r) c → bit (bitOr left (bitAnd near (above n S))) c ≡ 1
         from c v = go (waits-either J n t S s r w c v)
@@ -97,5 +94,5 @@ module _ (J : Joins) (n : ℕ) (t : Tree J n) where
                 omega (arith, bit-or left (bitAnd near (above n S)) c, bit-le (bitAnd near (above n S)) c)
             go (inr a) =
                 let p : bit near c ≡ 1 = ap (λ (x : ℕ). bit x c) e ∙ near-of J r c (J .count) a in
-                let q = above-of n S (range .0) (range .1) c (v .in-all) (omega (arith, sums c, v .out)) (omega (arith, waits-root J n t S s r w, v .higher)) in
+                let q = above-of n S (range .0) (range .1) c (v .in-all) (omega (arith, bit-more S r (w .out) c, v .out)) (omega (arith, waits-root J n t S s r w, v .higher)) in
                 omega (arith, bit-or left (bitAnd near (above n S)) c, bit-and near (above n S) c, bit-le left c)

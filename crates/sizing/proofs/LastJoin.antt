@@ -12,7 +12,7 @@ use Rattle.relations.specs.Sets.{bit}
 use Rattle.relations.specs.Growth.{first, second, inside}
 use Rattle.relations.specs.Trees.{Tree, Subquery, side}
 use Rattle.relations.specs.Table.{joinBits}
-use Rattle.relations.proofs.Bits.{ext, bit-le, bit-add, bit-pow, bit-pow-other, single-apart, pow-cases}
+use Rattle.relations.proofs.Bits.{ext, bit-le, bit-add, bit-pow, bit-pow-other, single-apart, pow-cases, bit-more, bit-add}
 use Rattle.relations.proofs.Entries.{bits-inside, bits-high}
 use Rattle.relations.proofs.Leads.{inside-ends, ends-inside}
 use Rattle.relations.proofs.Trees.{side-first, side-second}
@@ -22,9 +22,6 @@ use Rattle.sizing.proofs.Adjacent.{Linked, linked, links-of, join-links
 use Rattle.sizing.proofs.OnlyJoin.{only-join}
 
 module _ (J : Joins) (n : ℕ) (t : Tree J n) (S : ℕ) (s : Subquery J n S) (r : ℕ) (w : Waits J n S r) where
-  sums : (x : ℕ) → bit (S + 2 ^ r) x ≡ bit S x + bit (2 ^ r) x
-  sums = bit-add S (2 ^ r) (single-apart S r (w .out))
-
   -- The join that takes r in is the one more that S with r holds.
   e : ℕ
   e = joinTo J S r
@@ -42,10 +39,10 @@ module _ (J : Joins) (n : ℕ) (t : Tree J n) (S : ℕ) (s : Subquery J n S) (r 
       go : Linked J S r (joinTo J S r) → (bit (S + 2 ^ r) (first J (joinTo J S r)) + bit (S + 2 ^ r) (second J (joinTo J S r)) ≡ 2) × (bit S (first J (joinTo J S r)) + bit S (second J (joinTo J S r)) ≡ 1)
       go (inl (p, q)) =
           let f = ap (bit S) p in let g = ap (bit (2 ^ r)) p in
-          (omega (arith, sums (first J (joinTo J S r)), sums (second J (joinTo J S r)), bit-pow r, w .out, single-apart S r (w .out) (second J (joinTo J S r))), omega (arith, w .out))
+          (omega (arith, bit-more S r (w .out) (first J (joinTo J S r)), bit-more S r (w .out) (second J (joinTo J S r)), bit-pow r, w .out, single-apart S r (w .out) (second J (joinTo J S r))), omega (arith, w .out))
       go (inr (p, q)) =
           let f = ap (bit S) p in let g = ap (bit (2 ^ r)) p in
-          (omega (arith, sums (first J (joinTo J S r)), sums (second J (joinTo J S r)), bit-pow r, w .out, single-apart S r (w .out) (first J (joinTo J S r))), omega (arith, w .out))
+          (omega (arith, bit-more S r (w .out) (first J (joinTo J S r)), bit-more S r (w .out) (second J (joinTo J S r)), bit-pow r, w .out, single-apart S r (w .out) (first J (joinTo J S r))), omega (arith, w .out))
 
   -- Any other join of S with r is one of S.
   other-join : (i : ℕ) → i < J .count → (joinTo J S r ≡ i → ⊥) → (bit (S + 2 ^ r) (first J i) + bit (S + 2 ^ r) (second J i) ≡ 2) → bit S (first J i) + bit S (second J i) ≡ 2
@@ -60,9 +57,9 @@ module _ (J : Joins) (n : ℕ) (t : Tree J n) (S : ℕ) (s : Subquery J n S) (r 
       go : ((r ≡ first J i) × (bit (2 ^ r) (first J i) ≡ 1)) ⊎ (bit (2 ^ r) (first J i) ≡ 0) → ((r ≡ second J i) × (bit (2 ^ r) (second J i) ≡ 1)) ⊎ (bit (2 ^ r) (second J i) ≡ 0) →
           bit S (first J i) + bit S (second J i) ≡ 2
       go (inl (p, a)) (inl (q, b)) = absurd (apart (sym p ∙ q))
-      go (inl (p, a)) (inr b) = absurd (not-by (inl (sym p, omega (arith, sums (first J i), sums (second J i), single-apart S r (w .out) (first J i), bit-le S (second J i)))))
-      go (inr a) (inl (q, b)) = absurd (not-by (inr (sym q, omega (arith, sums (first J i), sums (second J i), single-apart S r (w .out) (second J i), bit-le S (first J i)))))
-      go (inr a) (inr b) = omega (arith, sums (first J i), sums (second J i))
+      go (inl (p, a)) (inr b) = absurd (not-by (inl (sym p, omega (arith, bit-more S r (w .out) (first J i), bit-more S r (w .out) (second J i), single-apart S r (w .out) (first J i), bit-le S (second J i)))))
+      go (inr a) (inl (q, b)) = absurd (not-by (inr (sym q, omega (arith, bit-more S r (w .out) (first J i), bit-more S r (w .out) (second J i), single-apart S r (w .out) (second J i), bit-le S (first J i)))))
+      go (inr a) (inr b) = omega (arith, bit-more S r (w .out) (first J i), bit-more S r (w .out) (second J i))
 
   in-bits : (X i : ℕ) → i < J .count → (bit (joinBits J X (J .count)) i ≡ 1) ↔ (bit X (first J i) + bit X (second J i) ≡ 2)
   in-bits X i l = (to (inside J X i) refl, from)
@@ -99,7 +96,7 @@ module _ (J : Joins) (n : ℕ) (t : Tree J n) (S : ℕ) (s : Subquery J n S) (r 
       kept : (i : ℕ) → i < J .count → bit (joinBits J S (J .count)) i ≡ 1 → bit (joinBits J (S + 2 ^ r) (J .count)) i ≡ 1
       kept i l h =
           in-bits (S + 2 ^ r) i l .1
-          (omega (arith, in-bits S i l .0 h, sums (first J i), sums (second J i), bit-le (S + 2 ^ r) (first J i), bit-le (S + 2 ^ r) (second J i), bit-le S (first J i), bit-le S (second J i)))
+          (omega (arith, in-bits S i l .0 h, bit-more S r (w .out) (first J i), bit-more S r (w .out) (second J i), bit-le (S + 2 ^ r) (first J i), bit-le (S + 2 ^ r) (second J i), bit-le S (first J i), bit-le S (second J i)))
 
       below : (i : ℕ) → i < J .count → bit (joinBits J (S + 2 ^ r) (J .count)) i ≡ bit (joinBits J S (J .count)) i + bit (2 ^ joinTo J S r) i
       below i l = elim (ℕ-discrete (joinTo J S r) i) [

@@ -5,14 +5,14 @@ use native.Mathlib.Decide.{decLt}
 use native.Mathlib.Omega.{arith}
 use mathlib.Core.Path.{_≡_, sym, ap, subst, _∙_}
 use mathlib.Core.List.{List}
-use mathlib.Core.Logic.{_⊎_, inl, inr}
+use mathlib.Core.Logic.{inl, inr}
 use lib.Count.{ones}
 use lib.ListN.{getD}
 use Rattle.relations.specs.declared.Joins.{Joins}
-use Rattle.relations.specs.Sets.{bit, Sub, lowest}
+use Rattle.relations.specs.Sets.{bit, lowest}
 use Rattle.relations.specs.Growth.{first}
 use Rattle.relations.specs.Trees.{Tree, Subquery}
-use Rattle.relations.proofs.Bits.{bit-le, bit-add, bit-pow, single-apart, pow-cases}
+use Rattle.relations.proofs.Bits.{bit-le, bit-pow, bit-more, sub-more, more-cases}
 use Rattle.relations.proofs.Counts.{lowest-in, lowest-least, lowest-is, ones-more}
 use Rattle.relations.proofs.Connected.{subquery-range}
 use Rattle.sizing.specs.Worked.{joinTo, next, takenAfter, joinedSize, sizeAfter, workedSize}
@@ -57,15 +57,6 @@ module _ (J : Joins) (n : ℕ) (t : Tree J n) where
 
   -- A subquery X and a relation c that waits for it.
   module _ (X : ℕ) (s : Subquery J n X) (c : ℕ) (w : Waits J n X c) where
-    sums : (x : ℕ) → bit (X + 2 ^ c) x ≡ bit X x + bit (2 ^ c) x
-    sums = bit-add X (2 ^ c) (single-apart X c (w .out))
-
-    more-than : Sub X (X + 2 ^ c)
-    more-than x = omega (arith, sums x)
-
-    of-both : (x : ℕ) → bit (X + 2 ^ c) x ≡ 1 → (bit X x ≡ 1) ⊎ (c ≡ x)
-    of-both x h = elim (pow-cases c x) [ inl (e, one) ↦ inr e | inr none ↦ inl (omega (arith, sums x)) ]
-
     pub waits-subquery : Subquery J n (X + 2 ^ c)
     waits-subquery = with-adjacent J n t X c s (w .in-all) (w .out) (w .near)
 
@@ -76,8 +67,8 @@ module _ (J : Joins) (n : ℕ) (t : Tree J n) where
     waits-root =
         let range = subquery-range J n X s in
         let here = lowest-in n X (range .0) (range .1) in
-        lowest-is n (X + 2 ^ c) (lowest n X) (subquery-range J n (X + 2 ^ c) waits-subquery .1) (omega (arith, sums (lowest n X), more-than (lowest n X), bit-le (X + 2 ^ c) (lowest n X)))
-        (λ x h. elim (of-both x h) [ inl p ↦ lowest-least n X x p | inr e ↦ omega (arith, w .higher) ])
+        lowest-is n (X + 2 ^ c) (lowest n X) (subquery-range J n (X + 2 ^ c) waits-subquery .1) (omega (arith, bit-more X c (w .out) (lowest n X), sub-more X c (w .out) (lowest n X), bit-le (X + 2 ^ c) (lowest n X)))
+        (λ x h. elim (more-cases X c (w .out) x h) [ inl p ↦ lowest-least n X x p | inr e ↦ omega (arith, w .higher) ])
 
     -- The first steps are those of X.
     pub waits-alike : Alike J n X (X + 2 ^ c) (ones X - 1)
@@ -87,8 +78,8 @@ module _ (J : Joins) (n : ℕ) (t : Tree J n) where
           let m = step-from J n t X s j (omega arith) in
           let T = takenAfter J n X j in
           let v = next J n X T in
-          next-is J n (X + 2 ^ c) T v (m .low) (record { of-set = omega (arith, more-than v, m .is-ready .of-set, bit-le (X + 2 ^ c) v); free = m .is-ready .free; near = m .is-ready .near })
-          (λ x below r. elim (of-both x (r .of-set)) [
+          next-is J n (X + 2 ^ c) T v (m .low) (record { of-set = omega (arith, sub-more X c (w .out) v, m .is-ready .of-set, bit-le (X + 2 ^ c) v); free = m .is-ready .free; near = m .is-ready .near })
+          (λ x below r. elim (more-cases X c (w .out) x (r .of-set)) [
             | inl p ↦ omega (arith, next-least J n X T x (record { of-set = p; free = r .free; near = r .near }))
             | inr e ↦ omega (arith, w .later j (omega arith) (subst (λ (y : ℕ). Adjacent J T y) (sym e) (r .near)))
           ]);
@@ -103,8 +94,8 @@ module _ (J : Joins) (n : ℕ) (t : Tree J n) where
     -- Then c.
     pub waits-last : next J n (X + 2 ^ c) X ≡ c
     waits-last =
-        next-is J n (X + 2 ^ c) X c (w .in-all) (record { of-set = omega (arith, sums c, bit-pow c, w .out); free = w .out; near = w .near })
-        (λ x below r. elim (of-both x (r .of-set)) [ inl p ↦ omega (arith, r .free) | inr e ↦ omega arith ])
+        next-is J n (X + 2 ^ c) X c (w .in-all) (record { of-set = omega (arith, bit-more X c (w .out) c, bit-pow c, w .out); free = w .out; near = w .near })
+        (λ x below r. elim (more-cases X c (w .out) x (r .of-set)) [ inl p ↦ omega (arith, r .free) | inr e ↦ omega arith ])
 
     -- So its worked size is one step from that of X.
     pub waits-size :

@@ -11,7 +11,7 @@ use Rattle.relations.specs.declared.Joins.{Joins}
 use Rattle.relations.specs.Sets.{bit, Sub, lowest}
 use Rattle.relations.specs.Growth.{first, second}
 use Rattle.relations.specs.Trees.{Tree, Subquery}
-use Rattle.relations.proofs.Bits.{bit-add, bit-pow-other, single-apart}
+use Rattle.relations.proofs.Bits.{bit-pow-other, single-apart, bit-more, sub-more}
 use Rattle.relations.proofs.Counts.{lowest-pow, ones-pow}
 use Rattle.sizing.specs.Worked.{links, next, takenAfter}
 use Rattle.sizing.specs.Code.{Adjacent, Waits}
@@ -23,12 +23,6 @@ use Rattle.sizing.proofs.Waiting.{waits-subquery, waits-count, waits-ro
 
 module _ (J : Joins) (n : ℕ) (t : Tree J n) where
   module _ (X : ℕ) (s : Subquery J n X) (c : ℕ) (w : Waits J n X c) where
-    sums : (x : ℕ) → bit (X + 2 ^ c) x ≡ bit X x + bit (2 ^ c) x
-    sums = bit-add X (2 ^ c) (single-apart X c (w .out))
-
-    more-than : Sub X (X + 2 ^ c)
-    more-than x = omega (arith, sums x)
-
     abbrev alike : Alike J n X (X + 2 ^ c) (ones X - 1)
     alike = waits-alike J n t X s c w
 
@@ -39,8 +33,8 @@ module _ (J : Joins) (n : ℕ) (t : Tree J n) where
     pub waits-beside : (d : ℕ) → Waits J n X d → c < d → Waits J n (X + 2 ^ c) d
     waits-beside d v l = record {
       in-all = v .in-all;
-      out = omega (arith, sums d, v .out, bit-pow-other c d (λ e. omega arith));
-      near = adjacent-more J X (X + 2 ^ c) d more-than (v .near);
+      out = omega (arith, bit-more X c (w .out) d, v .out, bit-pow-other c d (λ e. omega arith));
+      near = adjacent-more J X (X + 2 ^ c) d (sub-more X c (w .out)) (v .near);
       higher = omega (arith, (waits-root J n t X s c w), v .higher);
       later = λ j h near.
           let below : j < ones X = omega (arith, (waits-count J n t X s c w)) in
@@ -65,19 +59,19 @@ module _ (J : Joins) (n : ℕ) (t : Tree J n) where
 
         one : e ≡ i
         one =
-            only-join J n t (X + 2 ^ c) d (waits-subquery J n t X s c w) low out e i l k (whole (2 ^ c) e (λ x. omega (arith, sums x)) h) (whole X i more-than g)
+            only-join J n t (X + 2 ^ c) d (waits-subquery J n t X s c w) low out e i l k (whole (2 ^ c) e (λ x. omega (arith, bit-more X c (w .out) x)) h) (whole X i (sub-more X c (w .out)) g)
 
         go : Linked J (2 ^ c) d e → Linked J X d e → ⊥
         go (inl (p, q)) (inl (u, v)) = omega (arith, single-apart X c (w .out) (second J e))
-        go (inl (p, q)) (inr (u, v)) = omega (arith, ap (bit (2 ^ c)) u, sums d)
-        go (inr (p, q)) (inl (u, v)) = omega (arith, ap (bit (2 ^ c)) u, sums d)
+        go (inl (p, q)) (inr (u, v)) = omega (arith, ap (bit (2 ^ c)) u, bit-more X c (w .out) d)
+        go (inr (p, q)) (inl (u, v)) = omega (arith, ap (bit (2 ^ c)) u, bit-more X c (w .out) d)
         go (inr (p, q)) (inr (u, v)) = omega (arith, single-apart X c (w .out) (first J e))
 
     pub waits-neighbour : (d : ℕ) → d < n → bit (X + 2 ^ c) d ≡ 0 → lowest n X < d → Adjacent J (2 ^ c) d → Waits J n (X + 2 ^ c) d
     waits-neighbour d low out above near = record {
       in-all = low;
       out = out;
-      near = adjacent-more J (2 ^ c) (X + 2 ^ c) d (λ x. omega (arith, sums x)) near;
+      near = adjacent-more J (2 ^ c) (X + 2 ^ c) d (λ x. omega (arith, bit-more X c (w .out) x)) near;
       higher = omega (arith, (waits-root J n t X s c w));
       later = λ j h by.
           let below : j < ones X = omega (arith, (waits-count J n t X s c w)) in
@@ -97,7 +91,7 @@ module _ (J : Joins) (n : ℕ) (t : Tree J n) where
             inl (
               record {
                 in-all = v .in-all;
-                out = omega (arith, sums d, v .out);
+                out = omega (arith, bit-more X c (w .out) d, v .out);
                 near = near;
                 higher = omega (arith, (waits-root J n t X s c w), v .higher);
                 later = λ j h by.
