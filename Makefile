@@ -4,7 +4,8 @@
 #                 tries other random files and lists of calls, and as many of them
 # make soak       a million calls of the C call from four threads, held to the reference; ARGS='CALLS THREADS SEED'
 # make bench      solve and the whole C call beside C; ARGS=growth writes docs/GROWTH.md anew, ARGS='before REV' measures
-#                 beside an earlier revision, ARGS='compare COUNT SEED' holds the C to the product on random queries
+#                 beside an earlier revision, ARGS='compare COUNT SEED' holds the C to the product on random queries,
+#                 ARGS=loads measures the ordinary load and the load from row counts
 
 .PHONY: plan test outside soak bench kit
 

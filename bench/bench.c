@@ -1,11 +1,12 @@
 /* Times the product beside the C of plain.c, and both beside an earlier archive where one is linked.
  *
  *   bench                        solve and the whole call of each shape, in microseconds and as ratios
+ *   bench loads                  the ordinary load and the load from row counts of each shape
  *   bench before                 the same beside the earlier archive: ten thousand a timing
  *   bench growth                 one line for each n and s: n s trials product-ns plain-ns
  *   bench compare COUNT SEED     so many random queries, every answer and every byte alike
- *   bench shapes                 the shapes, a line each
- *   bench hundred PLANNER WORK SHAPE N S     a hundred of one, for counting instructions
+ *   bench shapes                 the shapes, a line each; bench shapes loads those of loads
+ *   bench repeat TIMES PLANNER WORK SHAPE N S     so many of one, for counting instructions
  */
 #define _POSIX_C_SOURCE 200809L
 #include <inttypes.h>
@@ -21,13 +22,15 @@
 
 /* plain.c compiled at -O3 -march=native under other names. */
 int fast_load(plain_query *q, const uint8_t *file, size_t length);
+int fast_load_rows(plain_query *q, const uint8_t *file, size_t length);
 plain_answer fast_solve(const plain_query *q, plain_lanes cells[512], uint8_t plan[69]);
 uint64_t fast_plan(const uint8_t *query, size_t query_length, uint8_t *output, size_t output_length);
 
-/* crates/timed: loads a query and solves it so many times. */
-uint64_t fanchuki_solves(const uint8_t *query, size_t query_length, uint64_t times);
+/* crates/timed: loads a query and solves it so many times; loads it so many times, the one way or the other, and solves it. */
+typedef uint64_t repeated(const uint8_t *query, size_t query_length, uint64_t times);
+repeated fanchuki_solves, fanchuki_loads, fanchuki_row_loads;
 
-/* The two of an earlier revision; null where none is linked. */
+/* Two of an earlier revision; null where none is linked. */
 uint64_t before_plan(const uint8_t *query, size_t query_length, uint8_t *output, size_t output_length) __attribute__((weak));
 uint64_t before_solves(const uint8_t *query, size_t query_length, uint64_t times) __attribute__((weak));
 
@@ -47,35 +50,56 @@ uint64_t before_solves(const uint8_t *query, size_t query_length, uint64_t times
 SOLVES_OF(plain)
 SOLVES_OF(fast)
 
+#define LOADS_OF(c, loads, load)                                                           \
+    static uint64_t c##_##loads(const uint8_t *query, size_t query_length, uint64_t times) \
+    {                                                                                      \
+        static plain_lanes cells[512];                                                     \
+        plain_query q;                                                                     \
+        uint8_t plan[69];                                                                  \
+        int refusal = 1;                                                                   \
+        while (times-- > 0)                                                                \
+            refusal = c##_##load(&q, query, query_length);                                 \
+        return !refusal && c##_solve(&q, cells, plan).cost != PLAIN_NONE;                  \
+    }
+LOADS_OF(plain, loads, load)
+LOADS_OF(plain, row_loads, load_rows)
+LOADS_OF(fast, loads, load)
+LOADS_OF(fast, row_loads, load_rows)
+
 enum { PRODUCT, PLAIN, FAST, BEFORE, PLANNERS };
-enum { SOLVE, CALL, WORKS };
+enum { SOLVE, CALL, LOAD, LOAD_ROWS, WORKS };
 
 typedef struct {
     const char *name;
-    uint64_t (*solves)(const uint8_t *query, size_t query_length, uint64_t times);
     uint64_t (*plan)(const uint8_t *query, size_t query_length, uint8_t *output, size_t output_length);
+    repeated *repeated[WORKS];
 } planner;
 
 static planner planners[PLANNERS] = {
-    {"fanchuki", fanchuki_solves, fanchuki_plan},
-    {"plain", plain_solves, plain_plan},
-    {"fast", fast_solves, fast_plan},
-    {"before", NULL, NULL},
+    {"fanchuki", fanchuki_plan, {[SOLVE] = fanchuki_solves, [LOAD] = fanchuki_loads, [LOAD_ROWS] = fanchuki_row_loads}},
+    {"plain", plain_plan, {[SOLVE] = plain_solves, [LOAD] = plain_loads, [LOAD_ROWS] = plain_row_loads}},
+    {"fast", fast_plan, {[SOLVE] = fast_solves, [LOAD] = fast_loads, [LOAD_ROWS] = fast_row_loads}},
+    {"before", NULL, {NULL}},
 };
 
-static const char *const works[WORKS] = {"solve", "load and solve"};
+static const char *const works[WORKS] = {"solve", "load and solve", "load", "load from rows"};
+static const char *const words[WORKS] = {"solve", "call", "load", "rows"}; /* as run.sh names them */
 
 typedef struct {
     const char *name;
     int relations, sites;
 } shape;
 
-static const shape shapes[] = {{"star", 9, 8}, {"chain", 9, 8}, {"tree", 9, 8}, {"star", 5, 4}, {"chain", 6, 5}, {"chain", 3, 2}};
-enum { SHAPES = sizeof shapes / sizeof *shapes };
+/* The last is for loads alone: its relations are numbered against the order in which they join in. */
+static const shape shapes[] = {{"star", 9, 8}, {"chain", 9, 8}, {"tree", 9, 8}, {"star", 5, 4}, {"chain", 6, 5}, {"chain", 3, 2}, {"star8", 9, 8}};
+enum { LOADED_SHAPES = sizeof shapes / sizeof *shapes, SHAPES = LOADED_SHAPES - 1 };
+
+/* The file of each work; null for a work that is not measured. */
+typedef const query_file *files[WORKS];
 
 static int has(int p, int w)
 {
-    return w == SOLVE ? planners[p].solves != NULL : planners[p].plan != NULL;
+    return w == CALL ? planners[p].plan != NULL : planners[p].repeated[w] != NULL;
 }
 
 static void fail(const char *format, ...)
@@ -93,8 +117,8 @@ static volatile uint64_t sink;
 static void run(int p, int w, const query_file *f, uint64_t times)
 {
     uint8_t plan[FANCHUKI_LONGEST_PLAN];
-    if (w == SOLVE)
-        sink += planners[p].solves(f->bytes, f->length, times);
+    if (w != CALL)
+        sink += planners[p].repeated[w](f->bytes, f->length, times);
     else
         for (uint64_t i = 0; i < times; i++)
             sink += planners[p].plan(f->bytes, f->length, plan, sizeof plan);
@@ -121,19 +145,19 @@ static uint64_t enough(int p, int w, const query_file *f, uint64_t times, double
 typedef double figures[PLANNERS][WORKS];
 
 /* The best of some timings of each, in turns, in nanoseconds for one. */
-static void measure(const query_file *f, int rounds, uint64_t times, double least, figures best)
+static void measure(const files f, int rounds, uint64_t times, double least, figures best)
 {
     uint64_t repeat[PLANNERS][WORKS];
     for (int p = 0; p < PLANNERS; p++)
         for (int w = 0; w < WORKS; w++) {
             best[p][w] = 1e18;
-            repeat[p][w] = has(p, w) ? enough(p, w, f, times, least) : 0;
+            repeat[p][w] = f[w] && has(p, w) ? enough(p, w, f[w], times, least) : 0;
         }
     for (int round = 0; round < rounds; round++)
         for (int w = 0; w < WORKS; w++)
             for (int p = 0; p < PLANNERS; p++)
-                if (has(p, w)) {
-                    double one = timing(p, w, f, repeat[p][w]) / (double)repeat[p][w];
+                if (repeat[p][w]) {
+                    double one = timing(p, w, f[w], repeat[p][w]) / (double)repeat[p][w];
                     if (one < best[p][w])
                         best[p][w] = one;
                 }
@@ -166,25 +190,83 @@ static void shape_file(query_file *f, shape s)
         fprintf(stderr, "bench: the earlier revision answers otherwise here, so it does other work\n");
 }
 
-static void print_row(shape s, int w)
+/* 1 where the C makes one query of both files, and of the ordinary one the product's plan. */
+static int loads_alike(const query_file *rows, const query_file *sizes)
 {
-    printf("%-6s %dx%d %-18s", s.name, s.relations, s.sites, works[w]);
+    static plain_query q[4];
+    uint64_t answer;
+    memset(q, 0, sizeof q);
+    if (plain_load(&q[0], sizes->bytes, sizes->length) || plain_load_rows(&q[1], rows->bytes, rows->length))
+        return 0;
+    if (fast_load(&q[2], sizes->bytes, sizes->length) || fast_load_rows(&q[3], rows->bytes, rows->length))
+        return 0;
+    for (int i = 1; i < 4; i++)
+        if (memcmp(&q[0], &q[i], sizeof *q) != 0)
+            return 0;
+    return alike(PRODUCT, PLAIN, sizes, FANCHUKI_LONGEST_PLAN, &answer);
+}
+
+/* The shape's two files, on which every load leaves a query with a plan. */
+static void shape_files(query_file *rows, query_file *sizes, shape s)
+{
+    shaped_rows(rows, sizes, s.name, s.relations, s.sites);
+    if (!loads_alike(rows, sizes))
+        fail("the C loads otherwise from rows on a %s of %d at %d sites", s.name, s.relations, s.sites);
+    for (int p = PRODUCT; p <= FAST; p++)
+        for (int w = LOAD; w <= LOAD_ROWS; w++) {
+            const query_file *f = w == LOAD ? sizes : rows;
+            if (planners[p].repeated[w](f->bytes, f->length, 1) != 1)
+                fail("%s finds no plan after a %s of a %s of %d at %d sites", planners[p].name, works[w], s.name, s.relations, s.sites);
+        }
+}
+
+static void print_row(shape s, const char *what)
+{
+    printf("%-6s %dx%d %-18s", s.name, s.relations, s.sites, what);
+}
+
+static void print_beside_c(shape s, int w, figures best)
+{
+    double product = best[PRODUCT][w], plain = best[PLAIN][w], fast = best[FAST][w];
+    print_row(s, works[w]);
+    printf("%9.2f %7.2f %8.2f %9.2f %9.2f\n", product / 1e3, plain / 1e3, fast / 1e3, product / plain, product / fast);
+}
+
+static void head_beside_c(void)
+{
+    printf("relations x sites                microseconds            ratio to C\n");
+    printf("%-29s product  C -O2  -O3 native   -O2   -O3 native\n", "");
 }
 
 static void beside_c(void)
 {
-    printf("relations x sites                microseconds            ratio to C\n");
-    printf("%-29s product  C -O2  -O3 native   -O2   -O3 native\n", "");
+    head_beside_c();
     for (int i = 0; i < SHAPES; i++) {
         query_file f;
         figures best;
         shape_file(&f, shapes[i]);
-        measure(&f, 50, 100, 2e5, best);
-        for (int w = 0; w < WORKS; w++) {
-            double product = best[PRODUCT][w], plain = best[PLAIN][w], fast = best[FAST][w];
-            print_row(shapes[i], w);
-            printf("%9.2f %7.2f %8.2f %9.2f %9.2f\n", product / 1e3, plain / 1e3, fast / 1e3, product / plain, product / fast);
-        }
+        measure((files){[SOLVE] = &f, [CALL] = &f}, 50, 100, 2e5, best);
+        for (int w = SOLVE; w <= CALL; w++)
+            print_beside_c(shapes[i], w, best);
+    }
+}
+
+/* Ten thousand loads a timing, beside which the one solve after them is nothing. */
+static void loads(void)
+{
+    head_beside_c();
+    for (int i = 0; i < LOADED_SHAPES; i++) {
+        query_file sizes, rows;
+        figures best;
+        double one[PLANNERS];
+        shape_files(&rows, &sizes, shapes[i]);
+        measure((files){[LOAD] = &sizes, [LOAD_ROWS] = &rows}, 10, 10000, 5e6, best);
+        for (int w = LOAD; w <= LOAD_ROWS; w++)
+            print_beside_c(shapes[i], w, best);
+        print_row(shapes[i], "rows to ordinary");
+        for (int p = PRODUCT; p <= FAST; p++)
+            one[p] = best[p][LOAD_ROWS] / best[p][LOAD];
+        printf("%9.2f %7.2f %8.2f\n", one[PRODUCT], one[PLAIN], one[FAST]);
     }
 }
 
@@ -196,12 +278,12 @@ static void beside_before(void)
         query_file f;
         figures best;
         shape_file(&f, shapes[i]);
-        measure(&f, 10, 10000, 5e6, best);
-        for (int w = 0; w < WORKS; w++) {
+        measure((files){[SOLVE] = &f, [CALL] = &f}, 10, 10000, 5e6, best);
+        for (int w = SOLVE; w <= CALL; w++) {
             double before = best[BEFORE][w], after = best[PRODUCT][w], plain = best[PLAIN][w], fast = best[FAST][w];
             if (!has(BEFORE, w))
                 continue;
-            print_row(shapes[i], w);
+            print_row(shapes[i], works[w]);
             printf("%9.2f %7.2f %7.3f %9.2f %7.2f %8.2f %7.2f\n", before / 1e3, after / 1e3, after / before, before / plain, after / plain, before / fast, after / fast);
         }
     }
@@ -230,6 +312,21 @@ static void growth(void)
             printf("%d %d %" PRIu64 " %.0f %.0f\n", n, s, shaped_trials("star", n, s), least[n][s][PRODUCT], least[n][s][PLAIN]);
 }
 
+/* A random query from row counts: the C makes of it what it makes of the ordinary file, and each finds a plan where the product
+ * does; one in four is then damaged. */
+static void compare_rows(uint64_t i, uint64_t from)
+{
+    query_file rows, sizes;
+    random_rows(&rows, &sizes);
+    int same = loads_alike(&rows, &sizes);
+    if (below(4) == 0)
+        damage(&rows);
+    for (int p = PLAIN; p <= FAST; p++)
+        same &= planners[p].repeated[LOAD_ROWS](rows.bytes, rows.length, 1) == fanchuki_row_loads(rows.bytes, rows.length, 1);
+    if (!same)
+        fail("the C loads otherwise from rows on query %" PRIu64 " after seed %" PRIu64, i, from);
+}
+
 /* Random queries, one in four damaged, one in eight with an output that may be too short. */
 static void compare(uint64_t count, uint64_t from)
 {
@@ -245,6 +342,7 @@ static void compare(uint64_t count, uint64_t from)
             if (!alike(PRODUCT, p, &f, room, &answer))
                 fail("%s answers otherwise on query %" PRIu64 " after seed %" PRIu64, planners[p].name, i, from);
         answers[answer]++;
+        compare_rows(i, from);
     }
     for (int length = 1; length < FANCHUKI_REFUSED; length++)
         plans += answers[length];
@@ -255,23 +353,33 @@ static void compare(uint64_t count, uint64_t from)
     printf("\n");
 }
 
-static void hundred(const char *name, const char *work, shape s)
+static void repeat(uint64_t times, const char *name, const char *work, shape s)
 {
-    query_file f;
-    int w = strcmp(work, "solve") == 0 ? SOLVE : CALL;
+    query_file f, rows, sizes;
+    files of = {&f, &f, &sizes, &rows};
     shaped_query(&f, s.name, s.relations, s.sites);
+    shaped_rows(&rows, &sizes, s.name, s.relations, s.sites);
     for (int p = 0; p < PLANNERS; p++)
-        if (strcmp(planners[p].name, name) == 0 && has(p, w))
-            run(p, w, &f, 100);
+        for (int w = 0; w < WORKS; w++)
+            if (strcmp(planners[p].name, name) == 0 && strcmp(words[w], work) == 0 && has(p, w))
+                run(p, w, of[w], times);
+}
+
+static void print_shapes(int count)
+{
+    for (int i = 0; i < count; i++)
+        printf("%s %d %d\n", shapes[i].name, shapes[i].relations, shapes[i].sites);
 }
 
 int main(int argc, char **argv)
 {
     const char *mode = argc > 1 ? argv[1] : "";
-    planners[BEFORE].solves = before_solves;
+    planners[BEFORE].repeated[SOLVE] = before_solves;
     planners[BEFORE].plan = before_plan;
     if (argc == 1)
         beside_c();
+    else if (argc == 2 && strcmp(mode, "loads") == 0)
+        loads();
     else if (argc == 2 && strcmp(mode, "before") == 0)
         beside_before();
     else if (argc == 2 && strcmp(mode, "growth") == 0)
@@ -279,10 +387,11 @@ int main(int argc, char **argv)
     else if (argc == 4 && strcmp(mode, "compare") == 0)
         compare(strtoull(argv[2], NULL, 10), strtoull(argv[3], NULL, 10));
     else if (argc == 2 && strcmp(mode, "shapes") == 0)
-        for (int i = 0; i < SHAPES; i++)
-            printf("%s %d %d\n", shapes[i].name, shapes[i].relations, shapes[i].sites);
-    else if (argc == 7 && strcmp(mode, "hundred") == 0)
-        hundred(argv[2], argv[3], (shape){argv[4], atoi(argv[5]), atoi(argv[6])});
+        print_shapes(SHAPES);
+    else if (argc == 3 && strcmp(mode, "shapes") == 0 && strcmp(argv[2], "loads") == 0)
+        print_shapes(LOADED_SHAPES);
+    else if (argc == 8 && strcmp(mode, "repeat") == 0)
+        repeat(strtoull(argv[2], NULL, 10), argv[3], argv[4], (shape){argv[5], atoi(argv[6]), atoi(argv[7])});
     else
         return 2;
     return 0;

@@ -2,7 +2,7 @@
 
 #include <string.h>
 
-enum { PARCEL = 8, MOST_SIZE = 1000000000 };
+enum { PARCEL = 8, MOST_SIZE = 1000000000, MOST_ROWS = 1000000 };
 
 static uint64_t state;
 
@@ -22,8 +22,12 @@ typedef struct {
     uint64_t least, span;
 } amounts;
 
+/* What stands between joins and lines: sizes that are drawn, or row counts and divisors, or the sizes that these come to. */
+enum { DRAWN, ROWS, WORKED };
+
 typedef struct {
-    int sites, relations, first[8], second[8];
+    int sites, relations, first[8], second[8], form;
+    uint64_t rows[9], divisors[8];
     amounts fixed, rate, size;
     uint64_t in_parcels;     /* whether a size is drawn as a number of parcels */
     uint64_t barred, closed; /* one site in so many may not join, one line in so many is closed; 0: none */
@@ -53,6 +57,32 @@ static void put_size(query_file *f, const draft *d)
     put(f, 4, size < MOST_SIZE ? size : MOST_SIZE);
 }
 
+/* The join between relation r and those taken; -1 where it is not adjacent to them. */
+static int join_to(const draft *d, unsigned taken, int r)
+{
+    for (int e = 0; e < d->relations - 1; e++)
+        if ((d->first[e] == r && taken >> d->second[e] & 1) || (d->second[e] == r && taken >> d->first[e] & 1))
+            return e;
+    return -1;
+}
+
+/* The rows of the lowest relation, then the others join in: each time the lowest that is adjacent to those taken. */
+static uint64_t worked(const draft *d, unsigned set)
+{
+    unsigned taken = set & -set;
+    uint64_t size = d->rows[__builtin_ctz(set)];
+    while (taken != set) {
+        int r = 0;
+        while (!((set & ~taken) >> r & 1) || join_to(d, taken, r) < 0)
+            r++;
+        uint64_t divisor = d->divisors[join_to(d, taken, r)];
+        size = (size * d->rows[r] + divisor - 1) / divisor;
+        size = size < MOST_SIZE ? size : MOST_SIZE;
+        taken |= 1u << r;
+    }
+    return size;
+}
+
 static void put_terms(query_file *f, const draft *d, uint64_t one_in)
 {
     put(f, 1, one_in == 0 || below(one_in) != 0);
@@ -69,9 +99,30 @@ static int connected(const draft *d, unsigned set)
     return joins + 1 == relations ? relations : 0;
 }
 
-static void write_query(query_file *f, const draft *d)
+static void put_sizes(query_file *f, const draft *d)
 {
     unsigned count = 0;
+    for (unsigned set = 1; set < 1u << d->relations; set++)
+        count += connected(d, set) != 0;
+    put(f, 2, count);
+    for (unsigned set = 1; set < 1u << d->relations; set++)
+        if (connected(d, set)) {
+            if (d->form == WORKED)
+                put(f, 4, worked(d, set));
+            else
+                put_size(f, d);
+        }
+}
+
+static void put_counts(query_file *f, const uint64_t *counts, int n)
+{
+    put(f, 1, (uint64_t)n);
+    for (int i = 0; i < n; i++)
+        put(f, 4, counts[i]);
+}
+
+static void write_query(query_file *f, const draft *d)
+{
     f->length = 0;
     put(f, 1, (uint64_t)d->sites);
     for (int k = 0; k < d->sites; k++)
@@ -86,11 +137,12 @@ static void write_query(query_file *f, const draft *d)
         put(f, 1, (uint64_t)d->first[e]);
         put(f, 1, (uint64_t)d->second[e]);
     }
-    for (unsigned set = 1; set < 1u << d->relations; set++)
-        count += connected(d, set) != 0;
-    put(f, 2, count);
-    for (unsigned i = 0; i < count; i++)
-        put_size(f, d);
+    if (d->form == ROWS) {
+        put_counts(f, d->rows, d->relations);
+        put_counts(f, d->divisors, d->relations - 1);
+    } else {
+        put_sizes(f, d);
+    }
     put(f, 1, (uint64_t)(d->sites * (d->sites - 1)));
     for (int i = 0; i < d->sites * (d->sites - 1); i++)
         put_terms(f, d, d->closed);
@@ -98,12 +150,32 @@ static void write_query(query_file *f, const draft *d)
     put(f, 1, below((uint64_t)d->sites));
 }
 
-/* Joins each relation to an earlier one. */
+/* The query from row counts, and the same one, drawn again, from the sizes that they come to. */
+static void write_both(query_file *rows, query_file *sizes, draft *d)
+{
+    uint64_t from = state;
+    d->form = ROWS;
+    write_query(rows, d);
+    state = from;
+    d->form = WORKED;
+    write_query(sizes, d);
+}
+
+static void draw_counts(draft *d, amounts rows, amounts divisors)
+{
+    for (int r = 0; r < 9; r++)
+        d->rows[r] = rows.least + below(rows.span);
+    for (int e = 0; e < 8; e++)
+        d->divisors[e] = divisors.least + below(divisors.span);
+}
+
+/* Joins each relation to an earlier one, or in star8 to the last one. */
 static void draw_joins(draft *d, const char *shape)
 {
+    int last = strcmp(shape, "star8") == 0 ? d->relations - 1 : 0;
     for (int r = 1; r < d->relations; r++) {
-        d->first[r - 1] = strcmp(shape, "chain") == 0 ? r - 1 : strcmp(shape, "star") == 0 ? 0 : (int)below((uint64_t)r);
-        d->second[r - 1] = r;
+        d->first[r - 1] = last ? last : strcmp(shape, "chain") == 0 ? r - 1 : strcmp(shape, "star") == 0 ? 0 : (int)below((uint64_t)r);
+        d->second[r - 1] = last ? r - 1 : r;
     }
 }
 
@@ -119,6 +191,13 @@ void shaped_query(query_file *f, const char *shape, int relations, int sites)
 {
     draft d = shaped(shape, relations, sites);
     write_query(f, &d);
+}
+
+void shaped_rows(query_file *rows, query_file *sizes, const char *shape, int relations, int sites)
+{
+    draft d = shaped(shape, relations, sites);
+    draw_counts(&d, (amounts){1, MOST_ROWS}, (amounts){1, MOST_ROWS / 8});
+    write_both(rows, sizes, &d);
 }
 
 uint64_t shaped_trials(const char *shape, int relations, int sites)
@@ -168,7 +247,7 @@ static amounts any_amounts(uint64_t most)
     }
 }
 
-void random_query(query_file *f)
+static draft random_draft(void)
 {
     static const char *const shapes[] = {"chain", "star", "tree", "tree"};
     draft d = {.sites = 1 + (int)below(8), .relations = 1 + (int)below(9), .barred = below(12), .closed = below(12)};
@@ -178,7 +257,21 @@ void random_query(query_file *f)
     d.size = any_amounts(d.in_parcels ? MOST_SIZE / PARCEL : MOST_SIZE);
     draw_joins(&d, shapes[below(4)]);
     mix(&d);
+    return d;
+}
+
+void random_query(query_file *f)
+{
+    draft d = random_draft();
     write_query(f, &d);
+}
+
+void random_rows(query_file *rows, query_file *sizes)
+{
+    draft d = random_draft();
+    uint64_t most = below(2) ? MOST_ROWS : 20;
+    draw_counts(&d, (amounts){1, most}, (amounts){1, below(2) ? most : 4});
+    write_both(rows, sizes, &d);
 }
 
 void damage(query_file *f)

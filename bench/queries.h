@@ -19,12 +19,17 @@ uint64_t below(uint64_t limit);
 /* A star, a chain or a tree that branches; always the same one for a shape, a number of relations and of sites. */
 void shaped_query(query_file *f, const char *shape, int relations, int sites);
 
+/* The same query twice, its sizes worked out from row counts: a file with these, and the ordinary one. Beside the shapes above
+ * "star8" is a star of nine whose middle is relation 8. Some sizes are cut to the largest. */
+void shaped_rows(query_file *rows, query_file *sizes, const char *shape, int relations, int sites);
+
 /* Trials of solve on a shaped query. */
 uint64_t shaped_trials(const char *shape, int relations, int sites);
 
 /* Any query: any tree in any order, small amounts that tie or amounts at their limits, sizes at and beside full parcels,
  * closed lines, sites that may not join, indexes. */
 void random_query(query_file *f);
+void random_rows(query_file *rows, query_file *sizes);
 
 /* One change somewhere, more often near the front. */
 void damage(query_file *f);

@@ -2,6 +2,7 @@
 # Builds the benchmark and runs it.
 #   run.sh                      the product beside the C of plain.c
 #   run.sh growth               the same; then docs/GROWTH.md and docs/growth.svg are written anew
+#   run.sh loads                the ordinary load and the load from row counts, of the product and of the C
 #   run.sh before REV           beside the archives of an earlier revision, all in turns in one run
 #   run.sh compare COUNT SEED   random queries, on which the product and the C must answer alike
 set -euo pipefail
@@ -20,7 +21,7 @@ archives() { # FOLDER
 
 build() { # further words for the linker
     gcc -O2 -Wall -Wextra -Ibench -c bench/plain.c -o "$out/plain.o"
-    gcc -O3 -march=native -Ibench -Dplain_load=fast_load -Dplain_solve=fast_solve -Dplain_plan=fast_plan -c bench/plain.c -o "$out/fast.o"
+    gcc -O3 -march=native -Ibench -Dplain_load=fast_load -Dplain_load_rows=fast_load_rows -Dplain_solve=fast_solve -Dplain_plan=fast_plan -c bench/plain.c -o "$out/fast.o"
     gcc -O2 -Wall -Wextra -Iinclude -Ibench bench/bench.c bench/queries.c "$out/plain.o" "$out/fast.o" -Ltarget/staticlib -ltimed -lfanchuki "$@" -o "$bench"
 }
 
@@ -38,30 +39,38 @@ build_before() { # REV
     set --
     for name in fanchuki timed; do
         [ -f "$was/target/staticlib/lib$name.a" ] || continue
-        objcopy --redefine-sym fanchuki_plan=before_plan --redefine-sym fanchuki_solves=before_solves "$was/target/staticlib/lib$name.a" "$out/before/lib$name.a"
+        objcopy --redefine-sym fanchuki_plan=before_plan --redefine-sym fanchuki_solves=before_solves \
+            --redefine-sym fanchuki_loads=before_loads --redefine-sym fanchuki_row_loads=before_row_loads "$was/target/staticlib/lib$name.a" "$out/before/lib$name.a"
         set -- "$@" "$out/before/lib$name.a"
     done
     build -Wl,--whole-archive "$@" -Wl,--no-whole-archive
 }
 
-count() { # PLANNER WORK SHAPE N S: the instructions of one
-    local inside=$1_plan
-    [ "$2" = call ] || inside=$1_solves
-    valgrind --tool=callgrind --callgrind-out-file=/dev/null --toggle-collect="$inside" "$bench" hundred "$@" 2>&1 </dev/null |
+count() { # TIMES PLANNER WORK SHAPE N S: the instructions of so many
+    local inside
+    case $3 in
+    solve) inside=$2_solves ;;
+    call) inside=$2_plan ;;
+    load) inside=$2_loads ;;
+    rows) inside=$2_row_loads ;;
+    esac
+    valgrind --tool=callgrind --callgrind-out-file=/dev/null --toggle-collect="$inside" "$bench" repeat "$@" 2>&1 </dev/null |
         sed -n 's/.*refs: *\([0-9,]*\).*/\1/p' | tr -d ,
 }
 
 # A row for each shape and work, a column for each planner, and the first planner's ratio to the second.
-counts() { # PLANNER..
+counts() { # SHAPES WORKS TIMES PLANNER..
+    local shapes=$1 works=$2 times=$3
+    shift 3
     command -v valgrind >/dev/null || return 0
     printf '\n%-29s' "instructions"
     printf '%10s' "$@" ratio
     printf '\n'
-    "$bench" shapes | while read -r shape n s; do
-        for work in solve call; do
-            for planner in "$@"; do count "$planner" $work "$shape" "$n" "$s"; done |
-                awk -v row="$(printf '%-6s %dx%d %s' "$shape" "$n" "$s" "$work")" '
-                    { one[NR] = $1 / 100 }
+    "$bench" $shapes | while read -r shape n s; do
+        for work in $works; do
+            for planner in "$@"; do count $times "$planner" $work "$shape" "$n" "$s"; done |
+                awk -v times=$times -v row="$(printf '%-6s %dx%d %s' "$shape" "$n" "$s" "$work")" '
+                    { one[NR] = $1 / times }
                     END {
                         printf "%-29s", row
                         for (i = 1; i <= NR; i++) printf "%10d", one[i]
@@ -77,13 +86,17 @@ compare)
     build
     "$bench" "$@"
     ;;
+loads)
+    build
+    { "$bench" loads && counts 'shapes loads' 'load rows' 1000 fanchuki plain; } | tee "$out/loads.txt"
+    ;;
 before)
     build_before "${2:?the revision to measure beside}"
-    { "$bench" before && counts fanchuki before plain; } | tee "$out/before.txt"
+    { "$bench" before && counts shapes 'solve call' 100 fanchuki before plain; } | tee "$out/before.txt"
     ;;
 *)
     build
-    { "$bench" && counts fanchuki plain; } | tee "$out/shapes.txt"
+    { "$bench" && counts shapes 'solve call' 100 fanchuki plain; } | tee "$out/shapes.txt"
     if [ "${1:-}" = growth ]; then
         "$bench" growth >"$out/growth.txt"
         python3 bench/growth.py <"$out/growth.txt"
