@@ -1,5 +1,5 @@
-"""Draws docs/growth.svg and writes docs/GROWTH.md from target/bench/shapes.txt, what `bench` printed, and the lines of
-`bench growth`: n s trials product-ns plain-ns."""
+"""Draws docs/growth.svg and writes docs/GROWTH.md from target/bench/shapes.txt and loads.txt, what `bench` and `bench loads`
+printed, and the lines of `bench growth`: n s trials product-ns plain-ns."""
 import sys
 
 rows = [[int(x) for x in line.split()] for line in sys.stdin]
@@ -47,8 +47,11 @@ def grid(cell):
     return lines
 
 
-with open("target/bench/shapes.txt", encoding="utf8") as f:
-    shapes = f.read().rstrip("\n")
+def printed(name):
+    with open(f"target/bench/{name}.txt", encoding="utf8") as f:
+        return ["```", f.read().rstrip("\n"), "```"]
+
+
 page = [
     "# How fast solve is, and how it grows",
     "",
@@ -58,9 +61,13 @@ page = [
     "",
     "bench/plain.c is written to win. Its figures are doubles, exact for these whole numbers, because the lesser of two doubles is one instruction on every x86-64 and that of two 64-bit integers is not; a trial there is one sum and one lesser for all sites at once; lines and splits are made ready by its load. `make bench ARGS='compare COUNT SEED'` holds it to the product's answers on random queries.",
     "",
-    "```",
-    shapes,
-    "```",
+    *printed("shapes"),
+    "",
+    "## The two loads",
+    "",
+    "The ordinary load reads a size for each subquery; the load from row counts works it out, one step each from the size of a smaller subquery. `star8` is a star whose middle is relation 8, so that its relations are numbered against the order in which they join in. The C does the same, its steps in doubles.",
+    "",
+    *printed("loads"),
     "",
     "## Growth",
     "",

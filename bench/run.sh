@@ -80,6 +80,10 @@ counts() { # SHAPES WORKS TIMES PLANNER..
     done
 }
 
+loads() {
+    { "$bench" loads && counts 'shapes loads' 'load rows' 1000 fanchuki plain; } | tee "$out/loads.txt"
+}
+
 archives .
 case ${1:-} in
 compare)
@@ -88,7 +92,7 @@ compare)
     ;;
 loads)
     build
-    { "$bench" loads && counts 'shapes loads' 'load rows' 1000 fanchuki plain; } | tee "$out/loads.txt"
+    loads
     ;;
 before)
     build_before "${2:?the revision to measure beside}"
@@ -98,6 +102,7 @@ before)
     build
     { "$bench" && counts shapes 'solve call' 100 fanchuki plain; } | tee "$out/shapes.txt"
     if [ "${1:-}" = growth ]; then
+        loads
         "$bench" growth >"$out/growth.txt"
         python3 bench/growth.py <"$out/growth.txt"
     fi
