@@ -2,7 +2,7 @@
 //! refused.
 
 use std::fs;
-use std::io::Write;
+use std::io::{ErrorKind, Write};
 use std::process::{Command, Stdio};
 
 use reference::encode::{encode, encode_stated};
@@ -47,7 +47,10 @@ fn tool(words: &[&str], input: &[u8]) -> (Vec<u8>, String, Option<i32>) {
     let mut tool = Command::new(env!("CARGO_BIN_EXE_querytext"));
     tool.args(words).stdin(Stdio::piped()).stdout(Stdio::piped()).stderr(Stdio::piped());
     let mut child = tool.spawn().unwrap();
-    child.stdin.take().unwrap().write_all(input).unwrap();
+    // One that does not know its words ends without reading, and may be gone by then.
+    if let Err(error) = child.stdin.take().unwrap().write_all(input) {
+        assert_eq!(error.kind(), ErrorKind::BrokenPipe);
+    }
     let output = child.wait_with_output().unwrap();
     (output.stdout, String::from_utf8(output.stderr).unwrap(), output.status.code())
 }
