@@ -1,6 +1,7 @@
 pub mod Sets
 pub mod Growth
 pub mod Trees
+pub mod Stars
 pub mod Theorems
 pub mod Code
 pub mod Table

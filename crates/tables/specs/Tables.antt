@@ -66,6 +66,9 @@ unfoldable pub joinsBelow : Joins → ℕ → ℕ → ℕ
 joinsBelow J n zero = 0
 joinsBelow J n (suc m) = joinsBelow J n m + pick (isSubquery J n m) (ones m - 1) 0
 
--- Trials = s × the sum over subqueries of (relations - 1), whether or not a site may join.
+-- Trials = s × the sum over subqueries of (relations - 1), whether or not a site may join: the joins and the number of sites alone decide.
+abbrev pub trialsOf : (s : ℕ) → Joins → (n : ℕ) → ℕ
+trialsOf s J n = s * joinsBelow J n (2 ^ n)
+
 abbrev pub trials : Query → ℕ
-trials q = sitesOf q * joinsBelow (q .joins) (relationsOf q) (2 ^ relationsOf q)
+trials q = trialsOf (sitesOf q) (q .joins) (relationsOf q)

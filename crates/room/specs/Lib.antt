@@ -1,0 +1,4 @@
+pub mod Room
+pub mod Code
+pub mod Vectors
+pub mod Heaviest
