@@ -12,7 +12,6 @@ pub mod Leads
 pub mod Growth
 pub mod Connected
 pub mod Sums
-pub mod Between
 pub mod Trees
 pub mod Halves
 pub mod Splits
@@ -20,5 +19,7 @@ pub mod Unions
 pub mod JoinCounts
 pub mod SubqueryCount
 pub mod Subqueries
-pub mod Among
+pub mod Weights
+pub mod Centred
+pub mod Stars
 pub mod SubqueriesMost

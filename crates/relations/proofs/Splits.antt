@@ -20,7 +20,7 @@ use Rattle.relations.proofs.Trees.{side-first, side-second, side-other}
 use Rattle.relations.proofs.Halves.{Halves, turned, half-conn}
 
 -- What grows within S without e from e's first relation is the part.
-pub part-grown : (J : Joins) (n S e : ℕ) → S < 2 ^ n → bit S (first J e) ≡ 1 → Grown J S e (2 ^ first J e) (part J n S e)
+part-grown : (J : Joins) (n S e : ℕ) → S < 2 ^ n → bit S (first J e) ≡ 1 → Grown J S e (2 ^ first J e) (part J n S e)
 unfolding part
 part-grown J n S e h p = growth-least J S e n (2 ^ first J e) (sub-single S (first J e) p) (enough n S (first J e) h)
 

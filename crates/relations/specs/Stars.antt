@@ -1,7 +1,7 @@
 -- Stars: trees with one relation in every join.
 use Prim.Native.Nat.{ℕ, zero, suc, _-_, _<_}
 use mathlib.Core.Path.{_≡_}
-use mathlib.Core.List.{List, [], _++_, _∷_}
+use mathlib.Core.List.{List, [], _∷_}
 use mathlib.Core.Logic.{_⊎_}
 use lib.ListN.{replicate}
 use Rattle.relations.specs.declared.Joins.{Joins}
