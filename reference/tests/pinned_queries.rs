@@ -1,6 +1,6 @@
 //! The pinned rows of the rules and the vectors from the papers.
 
-use reference::generate::queries::{self, Room};
+use reference::generate::queries::{self, Extent};
 use reference::limits::{DEAREST_PLAN, LONGEST_FILE, MOST_STEPS};
 use reference::method::Method;
 use reference::pinned;
@@ -138,7 +138,7 @@ fn the_dearest_plan_has_34_steps() {
 fn every_written_plan_is_allowed_at_its_cost() {
     let mut written = 0;
     for case in 0..2_000 {
-        let query = queries::query(&mut Random::for_case(21, case), &Room::full());
+        let query = queries::query(&mut Random::for_case(21, case), &Extent::full());
         if let Some(plan) = solve::solve(&query, Method::Rules) {
             assert_eq!(check::check(&query, &step::plan_bytes(&plan.steps)), Ok(plan.cost));
             assert!(plan.cost.0 <= DEAREST_PLAN);

@@ -3,7 +3,7 @@
 use reference::decode::decode;
 use reference::encode::encode;
 use reference::generate::files;
-use reference::generate::queries::{self, Room};
+use reference::generate::queries::{self, Extent};
 use reference::limits::LONGEST_FILE;
 use reference::pinned;
 use reference::random::Random;
@@ -41,7 +41,7 @@ fn every_cut_is_1() {
 #[test]
 fn every_field_wrong_is_refused() {
     for case in 0..20 {
-        let query = queries::query(&mut Random::for_case(31, case), &Room::full());
+        let query = queries::query(&mut Random::for_case(31, case), &Extent::full());
         let (right, wrong) = (encode(&query), files::every_field_wrong(&query.into()));
         assert!(wrong.iter().all(|file| refused(file).is_some()));
         for (place, byte) in right.iter().enumerate() {
@@ -115,7 +115,7 @@ fn amounts_of_a_closed_line_are_judged() {
 #[test]
 fn files_are_read_as_they_were_written() {
     for case in 0..1_000 {
-        let query = queries::query(&mut Random::for_case(32, case), &Room::full());
+        let query = queries::query(&mut Random::for_case(32, case), &Extent::full());
         assert_eq!(decode(&encode(&query), Form::Sizes), Ok(query.into()));
     }
 }

@@ -4,7 +4,7 @@ use reference::answers;
 use reference::decode::decode;
 use reference::encode::{encode, encode_stated};
 use reference::generate::files;
-use reference::generate::queries::Room;
+use reference::generate::queries::Extent;
 use reference::generate::rows;
 use reference::limits::{MOST_DIVISOR, MOST_ROWS};
 use reference::pinned;
@@ -100,7 +100,7 @@ fn joins_are_judged_before_the_count_of_rows() {
 #[test]
 fn every_field_wrong_is_refused() {
     for case in 0..20 {
-        let stated = rows::stated(&mut Random::for_case(34, case), &Room::full(), Form::Rows);
+        let stated = rows::stated(&mut Random::for_case(34, case), &Extent::full(), Form::Rows);
         let (right, wrong) = (encode_stated(&stated), files::every_field_wrong(&stated));
         assert!(wrong.iter().all(|file| refused(file).is_some()));
         for (place, byte) in right.iter().enumerate() {

@@ -2,7 +2,7 @@
 
 use reference::decode::decode;
 use reference::encode::{encode, encode_stated};
-use reference::generate::queries::Room;
+use reference::generate::queries::Extent;
 use reference::generate::rows;
 use reference::limits::MOST_SIZE;
 use reference::pinned;
@@ -45,7 +45,7 @@ fn the_longest_file_with_rows() {
 fn files_with_rows_are_read_as_they_were_written() {
     let mut cut = 0;
     for case in 0..1_000 {
-        let stated = rows::stated(&mut Random::for_case(33, case), &Room::full(), Form::Rows);
+        let stated = rows::stated(&mut Random::for_case(33, case), &Extent::full(), Form::Rows);
         let ordinary = decode(&encode(&stated.query), Form::Sizes).unwrap();
         assert_eq!(ordinary.query, stated.query);
         assert!(stated.query.sizes.iter().all(|size| (1..=MOST_SIZE).contains(&size.0)));

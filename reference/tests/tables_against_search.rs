@@ -3,7 +3,7 @@
 
 use reference::check;
 use reference::exhaustive;
-use reference::generate::queries::{self, Room};
+use reference::generate::queries::{self, Extent};
 use reference::hex::hex;
 use reference::method::Method;
 use reference::pinned;
@@ -26,33 +26,33 @@ fn agree(query: &Query) -> bool {
     searched.is_some()
 }
 
-fn agree_on_many(seed: u64, count: u64, room: Room) {
-    let query = |case| queries::query(&mut Random::for_case(seed, case), &room);
+fn agree_on_many(seed: u64, count: u64, extent: Extent) {
+    let query = |case| queries::query(&mut Random::for_case(seed, case), &extent);
     let planned = (0..count).filter(|&case| agree(&query(case))).count() as u64;
     assert!(count / 2 < planned && planned < count, "{planned} of {count} have a plan");
 }
 
 #[test]
 fn up_to_four_relations_at_three_sites() {
-    agree_on_many(11, 6_000, Room::small());
+    agree_on_many(11, 6_000, Extent::small());
 }
 
 #[test]
 fn four_relations_at_three_sites() {
-    agree_on_many(12, 600, Room { relations: 4..=4, sites: 3..=3 });
+    agree_on_many(12, 600, Extent { relations: 4..=4, sites: 3..=3 });
 }
 
 #[test]
 fn five_relations() {
-    agree_on_many(13, 100, Room { relations: 5..=5, sites: 1..=3 });
+    agree_on_many(13, 100, Extent { relations: 5..=5, sites: 1..=3 });
 }
 
 #[test]
 fn the_search_finds_the_cheapest_of_every_single_plan() {
     let mut plans = 0;
     for case in 0..300 {
-        let room = Room { relations: 1..=3, sites: 1..=3 };
-        let query = queries::query(&mut Random::for_case(14, case), &room);
+        let extent = Extent { relations: 1..=3, sites: 1..=3 };
+        let query = queries::query(&mut Random::for_case(14, case), &extent);
         let mut least = None;
         exhaustive::every_plan(&query, &mut |steps, cost| {
             assert_eq!(check::check(&query, &step::plan_bytes(steps)), Ok(cost));

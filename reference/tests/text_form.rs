@@ -4,7 +4,7 @@ use std::fs;
 
 use reference::compare::program::{Answering, Feed, Program};
 use reference::encode::encode;
-use reference::generate::queries::{self, Room};
+use reference::generate::queries::{self, Extent};
 use reference::limits::LONGEST_FILE;
 use reference::pinned;
 use reference::query::Query;
@@ -26,7 +26,7 @@ fn example(name: &str) -> Query {
 #[test]
 fn there_and_back() {
     for case in 0..1_000 {
-        let query = queries::query(&mut Random::for_case(51, case), &Room::full());
+        let query = queries::query(&mut Random::for_case(51, case), &Extent::full());
         let stated = query.into();
         assert_eq!(parse(&print(&stated)), Ok(stated));
     }

@@ -6,7 +6,7 @@ use std::io::{ErrorKind, Write};
 use std::process::{Command, Stdio};
 
 use reference::encode::{encode, encode_stated};
-use reference::generate::queries::Room;
+use reference::generate::queries::Extent;
 use reference::generate::rows;
 use reference::pinned;
 use reference::pinned_rows;
@@ -30,7 +30,7 @@ fn there_and_back() {
     assert_eq!(print(&pinned_rows::q()), Q);
     assert_eq!(parse(Q), Ok(pinned_rows::q()));
     for case in 0..1_000 {
-        let stated = rows::stated(&mut Random::for_case(52, case), &Room::full(), Form::Rows);
+        let stated = rows::stated(&mut Random::for_case(52, case), &Extent::full(), Form::Rows);
         assert_eq!(parse(&print(&stated)), Ok(stated));
     }
 }

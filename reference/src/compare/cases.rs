@@ -3,7 +3,7 @@
 use crate::encode;
 use crate::generate::damage;
 use crate::generate::files;
-use crate::generate::queries::{self, Room};
+use crate::generate::queries::{self, Extent};
 use crate::pinned;
 use crate::pinned_rows;
 use crate::query::Query;
@@ -45,12 +45,12 @@ pub fn sweep(stated: &Stated) -> Vec<Vec<u8>> {
 /// The sweep of a random query.
 pub fn random_sweep(seed: u64, case: u64) -> Vec<Vec<u8>> {
     let mut random = Random::for_case(seed, case);
-    sweep(&queries::query(&mut random, &Room::full()).into())
+    sweep(&queries::query(&mut random, &Extent::full()).into())
 }
 
 /// One random ordinary file, whole or damaged; two of five are small enough to search.
 pub fn random_file(seed: u64, case: u64) -> Vec<u8> {
     let mut random = Random::for_case(seed, case);
-    let room = if random.percent(40) { Room::small() } else { Room::full() };
-    damage::file(&mut random, &room, Form::Sizes)
+    let extent = if random.percent(40) { Extent::small() } else { Extent::full() };
+    damage::file(&mut random, &extent, Form::Sizes)
 }

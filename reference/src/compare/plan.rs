@@ -9,7 +9,7 @@ use crate::compare::program::{Answering, Feed};
 use crate::compare::tally::Tally;
 use crate::decode;
 use crate::exhaustive;
-use crate::generate::queries::Room;
+use crate::generate::queries::Extent;
 use crate::hex::hex;
 use crate::listing;
 use crate::method::Method;
@@ -71,7 +71,7 @@ pub fn compare(
 /// The cheapest cost by exhaustive search, for a query that is searched at once.
 fn searched(file: &[u8]) -> Option<Option<u64>> {
     let query = decode::decode(file, Form::Sizes).ok()?.query;
-    if !Room::small().fits(&query) {
+    if !Extent::small().fits(&query) {
         return None;
     }
     let cheapest = exhaustive::cheapest(&query).expect("a small query is searched");

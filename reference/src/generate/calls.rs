@@ -5,7 +5,7 @@ use crate::encode;
 use crate::generate::damage;
 use crate::generate::links;
 use crate::generate::plans;
-use crate::generate::queries::Room;
+use crate::generate::queries::Extent;
 use crate::generate::rows;
 use crate::generate::standing::Standing;
 use crate::limits::{LONGEST_PLAN, WORK_CELLS};
@@ -16,16 +16,16 @@ use crate::stated::Form;
 /// A list of calls from an empty planner.
 pub fn calls(random: &mut Random, length: usize) -> Vec<Call> {
     let mut standing = Standing::empty();
-    let room = match random.below(3) {
-        0 => Room::small(),
-        1 => Room { relations: 1..=6, sites: 1..=5 },
-        _ => Room::full(),
+    let extent = match random.below(3) {
+        0 => Extent::small(),
+        1 => Extent { relations: 1..=6, sites: 1..=5 },
+        _ => Extent::full(),
     };
     let mut calls = Vec::new();
     while calls.len() < length {
         let next = match random.below(100) {
-            0 => twins(random, &mut standing, &room),
-            _ => vec![call(random, &standing, &room)],
+            0 => twins(random, &mut standing, &extent),
+            _ => vec![call(random, &standing, &extent)],
         };
         next.iter().for_each(|call| standing.add(call));
         calls.extend(next);
@@ -33,9 +33,9 @@ pub fn calls(random: &mut Random, length: usize) -> Vec<Call> {
     calls
 }
 
-fn call(random: &mut Random, standing: &Standing, room: &Room) -> Call {
+fn call(random: &mut Random, standing: &Standing, extent: &Extent) -> Call {
     match random.below(100) {
-        0..=9 => load(random, room),
+        0..=9 => load(random, extent),
         10..=24 => Call::Link(links::link(random, standing)),
         25..=59 => solve(random, standing),
         _ => {
@@ -47,12 +47,12 @@ fn call(random: &mut Random, standing: &Standing, room: &Room) -> Call {
 
 /// A load of either kind, of a file that is whole or damaged; now and then it gets a file
 /// that is for the other.
-fn load(random: &mut Random, room: &Room) -> Call {
+fn load(random: &mut Random, extent: &Extent) -> Call {
     let form = random.pick(&Form::ALL);
     let file = if random.percent(40) {
-        encode::encode_stated(&rows::stated(random, room, form))
+        encode::encode_stated(&rows::stated(random, extent, form))
     } else {
-        let file = damage::file(random, room, form);
+        let file = damage::file(random, extent, form);
         long_at_times(random, file)
     };
     let taken_for = if random.percent(10) { random.pick(&Form::ALL) } else { form };
@@ -61,8 +61,8 @@ fn load(random: &mut Random, room: &Room) -> Call {
 
 /// A query from rows and a solve; then the ordinary file with the same sizes, and a solve
 /// with the same areas.
-fn twins(random: &mut Random, standing: &mut Standing, room: &Room) -> Vec<Call> {
-    let stated = rows::stated(random, room, Form::Rows);
+fn twins(random: &mut Random, standing: &mut Standing, extent: &Extent) -> Vec<Call> {
+    let stated = rows::stated(random, extent, Form::Rows);
     let from_rows = Call::Load { form: Form::Rows, file: encode::encode_stated(&stated) };
     let ordinary = Call::Load { form: Form::Sizes, file: encode::encode(&stated.query) };
     standing.add(&from_rows);

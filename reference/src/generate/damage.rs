@@ -2,15 +2,15 @@
 
 use crate::encode::{self, Field};
 use crate::generate::files::{turn_join, wrong_values};
-use crate::generate::queries::Room;
+use crate::generate::queries::Extent;
 use crate::generate::rows;
 use crate::query::Query;
 use crate::random::Random;
 use crate::stated::{Form, Stated};
 
 /// A random file of the form: whole, or damaged once or twice.
-pub fn file(random: &mut Random, room: &Room, form: Form) -> Vec<u8> {
-    let stated = rows::stated(random, room, form);
+pub fn file(random: &mut Random, extent: &Extent, form: Form) -> Vec<u8> {
+    let stated = rows::stated(random, extent, form);
     let damages = random.pick(&[0, 0, 0, 1, 1, 2]);
     damaged(random, &stated, damages)
 }

@@ -11,20 +11,20 @@ use crate::units::{Bytes, Charge, Rate};
 
 /// How many relations and sites a query may have.
 #[derive(Clone, Debug)]
-pub struct Room {
+pub struct Extent {
     pub relations: RangeInclusive<u64>,
     pub sites: RangeInclusive<u64>,
 }
 
-impl Room {
+impl Extent {
     /// All that the rules allow.
-    pub fn full() -> Room {
-        Room { relations: 1..=MOST_RELATIONS as u64, sites: 1..=MOST_SITES as u64 }
+    pub fn full() -> Extent {
+        Extent { relations: 1..=MOST_RELATIONS as u64, sites: 1..=MOST_SITES as u64 }
     }
 
     /// What the exhaustive search does in milliseconds.
-    pub fn small() -> Room {
-        Room { relations: 1..=4, sites: 1..=3 }
+    pub fn small() -> Extent {
+        Extent { relations: 1..=4, sites: 1..=3 }
     }
 
     pub fn fits(&self, query: &Query) -> bool {
@@ -98,9 +98,9 @@ impl Amounts {
     }
 }
 
-pub fn query(random: &mut Random, room: &Room) -> Query {
-    let n = random.between(*room.relations.start(), *room.relations.end()) as usize;
-    let s = random.between(*room.sites.start(), *room.sites.end()) as usize;
+pub fn query(random: &mut Random, extent: &Extent) -> Query {
+    let n = random.between(*extent.relations.start(), *extent.relations.end()) as usize;
+    let s = random.between(*extent.sites.start(), *extent.sites.end()) as usize;
     let shape = random.pick(&Shape::ALL);
     let joins = joins(random, shape, n);
     let subqueries = tree::subqueries(&joins, n).len();

@@ -1,14 +1,14 @@
 //! Random queries of either form, with rows and divisors from all alike to the limits.
 
-use crate::generate::queries::{self, Room};
+use crate::generate::queries::{self, Extent};
 use crate::limits::{MOST_DIVISOR, MOST_ROWS};
 use crate::random::Random;
 use crate::rows::RowCounts;
 use crate::stated::{Form, Stated};
 
 /// A random query, stated in the form.
-pub fn stated(random: &mut Random, room: &Room, form: Form) -> Stated {
-    let query = queries::query(random, room);
+pub fn stated(random: &mut Random, extent: &Extent, form: Form) -> Stated {
+    let query = queries::query(random, extent);
     match form {
         Form::Sizes => query.into(),
         Form::Rows => {
