@@ -5,6 +5,7 @@ use crate::limits::WORK_CELLS;
 use crate::method::Method;
 use crate::planner::{Loaded, Planner, Solved};
 use crate::refusal::Refusal;
+use crate::room::{self, Figures};
 use crate::script::Call;
 
 /// At most so many cells and output bytes are lent, whatever a record says.
@@ -33,6 +34,7 @@ impl Call {
                 Ok(cost) => format!("check {}", cost.0),
                 Err(refusal) => refused(refusal),
             }],
+            Call::Room(draft) => vec![room_line(room::room(draft))],
         }
     }
 }
@@ -41,6 +43,13 @@ impl Call {
 pub fn load_line(answer: Result<Loaded, Refusal>) -> String {
     match answer {
         Ok(loaded) => format!("load {} {}", loaded.relations, loaded.subqueries),
+        Err(refusal) => refused(refusal),
+    }
+}
+
+pub fn room_line(answer: Result<Figures, Refusal>) -> String {
+    match answer {
+        Ok(Figures { subqueries, cells, trials }) => format!("room {subqueries} {cells} {trials}"),
         Err(refusal) => refused(refusal),
     }
 }

@@ -2,7 +2,7 @@
 //!
 //! Read in this order: `query` and `prices` (what is planned), `rules` (the plan
 //! rules), `exhaustive` (the cheapest allowed plan by searching those rules),
-//! `tables` (the two tables), `rows` (sizes from row counts), `planner` (the calls).
+//! `tables` (the two tables), `rows` (sizes from row counts), `planner` and `room` (the calls).
 //! `generate` makes queries, files, plans and call lists; `compare` holds built programs
 //! to the model.
 
@@ -21,6 +21,7 @@ pub mod method;
 pub mod older;
 pub mod pinned;
 pub mod pinned_calls;
+pub mod pinned_rooms;
 pub mod pinned_row_calls;
 pub mod pinned_rows;
 pub mod pinned_solves;
@@ -29,6 +30,7 @@ pub mod prices;
 pub mod query;
 pub mod random;
 pub mod refusal;
+pub mod room;
 pub mod rows;
 pub mod rules;
 pub mod script;

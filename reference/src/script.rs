@@ -3,6 +3,7 @@
 use std::io::{self, Read};
 
 use crate::planner::Link;
+use crate::room::Draft;
 use crate::stated::Form;
 
 #[derive(Clone, Debug, PartialEq, Eq)]
@@ -20,6 +21,7 @@ pub enum Call {
     Check {
         plan: Vec<u8>,
     },
+    Room(Draft),
 }
 
 impl Call {
@@ -35,6 +37,10 @@ impl Call {
             Call::Check { plan } => with_length(5, plan),
             Call::Solve { cells, output } => {
                 [&[6][..], &cells.to_le_bytes(), &output.to_le_bytes()].concat()
+            }
+            Call::Room(draft) => {
+                let numbers = [draft.relations.to_le_bytes(), draft.sites.to_le_bytes()].concat();
+                [vec![8], numbers, after_length(&draft.joins)].concat()
             }
         }
     }
@@ -57,6 +63,11 @@ impl Call {
                 output: u32::from_le_bytes(take(script).ok()?),
             },
             7 => Call::Load { form: Form::Rows, file: take_with_length(script).ok()? },
+            8 => Call::Room(Draft {
+                relations: u64::from_le_bytes(take(script).ok()?),
+                sites: u64::from_le_bytes(take(script).ok()?),
+                joins: take_with_length(script).ok()?,
+            }),
             _ => return None,
         };
         Some(call)
@@ -64,9 +75,13 @@ impl Call {
 }
 
 fn with_length(opcode: u8, bytes: &[u8]) -> Vec<u8> {
+    [vec![opcode], after_length(bytes)].concat()
+}
+
+/// The bytes, and before them how many they are.
+fn after_length(bytes: &[u8]) -> Vec<u8> {
     let length = u16::try_from(bytes.len()).expect("a record has at most 65,535 bytes");
-    let head = [opcode].into_iter().chain(length.to_le_bytes());
-    head.chain(bytes.iter().copied()).collect()
+    [&length.to_le_bytes(), bytes].concat()
 }
 
 fn take<const WIDTH: usize>(script: &mut impl Read) -> io::Result<[u8; WIDTH]> {

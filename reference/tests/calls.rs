@@ -3,6 +3,7 @@
 use reference::answers;
 use reference::pinned;
 use reference::pinned_calls::{self, SOLVE};
+use reference::pinned_rooms::{self, room};
 use reference::pinned_row_calls::{self, load_from_rows};
 use reference::pinned_rows;
 use reference::pinned_solves;
@@ -197,29 +198,34 @@ fn calls_of(mut script: &[u8]) -> Vec<Call> {
 #[test]
 fn a_script_is_read_as_it_was_written() {
     let lists = pinned_calls::lists().into_iter().chain(pinned_solves::lists());
-    for calls in lists.chain(pinned_row_calls::lists()) {
+    for calls in lists.chain(pinned_row_calls::lists()).chain(pinned_rooms::lists()) {
         let script: Vec<u8> = calls.iter().flat_map(|call| call.record()).collect();
         assert_eq!(calls_of(&script), calls);
     }
     assert_eq!(pinned_calls::solve(5_000, 9).record(), [6, 0x88, 0x13, 0, 0, 9, 0, 0, 0]);
     assert_eq!(pinned_calls::load_file(vec![3; 258]).record()[..4], [1, 2, 1, 3]);
     assert_eq!(pinned_row_calls::rows_file(vec![3; 258]).record()[..4], [7, 2, 1, 3]);
+    let (n, s) = ([3, 0, 0, 0, 0, 0, 0, 1], [2, 1, 0, 0, 0, 0, 0, 0]);
+    let record = [&[8][..], &n, &s, &[4, 0], &[0, 1, 1, 2]].concat();
+    assert_eq!(room(3 + (1 << 56), 258, &[0, 1, 1, 2]).record(), record);
+    assert_eq!(room(1, 1, &[3; 258]).record()[17..20], [2, 1, 3]);
 }
 
 #[test]
 fn a_cut_record_ends_the_run() {
     let loads = [pinned_calls::load(&pinned::q()), load_from_rows(&pinned_rows::q())];
-    for record in loads.iter().chain([&SOLVE]).map(Call::record) {
+    let others = [&SOLVE, &room(3, 2, &[0, 1, 1, 2])];
+    for record in loads.iter().chain(others).map(Call::record) {
         for length in 0..record.len() {
             assert_eq!(calls_of(&record[..length]), []);
         }
     }
 }
 
-/// 3 and 4 are kinds as unknown as 0 and 255, whatever stands behind them.
+/// 3, 4 and 9 are kinds as unknown as 0 and 255, whatever stands behind them.
 #[test]
 fn an_unknown_record_ends_the_run() {
-    for kind in [0, 3, 4, 255] {
+    for kind in [0, 3, 4, 9, 255] {
         let script = [SOLVE.record(), vec![kind, 0, 16, 0, 0], SOLVE.record()].concat();
         assert_eq!(calls_of(&script), [SOLVE], "{kind}");
     }

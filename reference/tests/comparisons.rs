@@ -2,7 +2,7 @@
 //! that nearly works.
 
 use reference::compare::program::Program;
-use reference::compare::{alike, apart, calls, plan};
+use reference::compare::{alike, apart, calls, own_figures, plan};
 use reference::listing;
 use reference::method::Method;
 
@@ -41,7 +41,7 @@ fn plan_fails_when_it_nearly_works() {
 #[test]
 fn calls_pass_when_they_are_right() {
     let tally = calls::compare(&model_calls(Method::Rules), 42, 40).unwrap().unwrap();
-    let names = ["load", "load from rows", "link", "solve", "check"];
+    let names = ["load", "load from rows", "link", "solve", "check", "room"];
     let answered = names.map(|call| format!("{call}, answered"));
     let others = ["solve, no route", alike::HELD].map(String::from);
     let answered = answered.into_iter().chain(others);
@@ -51,9 +51,14 @@ fn calls_pass_when_they_are_right() {
     let refused = refused.chain([20, 21, 23].map(|number| format!("solve, refused {number}")));
     let refused =
         refused.chain([20, 7, 8, 9, 10, 11, 12].map(|number| format!("check, refused {number}")));
+    let refused = refused.chain([2, 3, 4].map(|number| format!("room, refused {number}")));
     for answer in refused.chain(answered) {
         assert!(tally.count(&answer) > 0, "{answer}");
     }
+    for (n, trees) in (1..=7).zip([1, 1, 3, 16, 125, 1_296, 16_807]) {
+        assert_eq!(tally.count(&own_figures::held("trees", n)), trees);
+    }
+    assert_eq!(tally.count(&own_figures::held("chains and stars", 9)), 16);
 }
 
 #[test]

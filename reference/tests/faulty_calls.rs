@@ -1,5 +1,6 @@
 //! Planners whose calls go wrong in one way each; the comparison of call lists stops at
-//! every one of them. What can go wrong within one solve is in faulty_solves.rs.
+//! every one of them. What can go wrong within one solve is in faulty_solves.rs, within one
+//! room in faulty_rooms.rs.
 
 use std::io;
 
@@ -78,6 +79,7 @@ impl Faulty {
             Call::Link(link) => self.link(link),
             Call::Solve { .. } => self.solve(&call),
             Call::Check { ref plan } => self.check(plan, &call),
+            Call::Room(_) => call.run(&mut self.planner),
         }
     }
 

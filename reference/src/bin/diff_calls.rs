@@ -1,6 +1,6 @@
 //! `diff_calls CALLS [SEED] [LISTS]`: holds the built program `calls` to the model on
-//! fixed lists of calls and on LISTS random ones. Ends with 1 and the script at the
-//! first mismatch.
+//! fixed lists of calls and on LISTS random ones, and its room to its own load and solve on
+//! every tree of up to seven relations. Ends with 1 and the script at the first mismatch.
 
 use std::process::ExitCode;
 

@@ -1,15 +1,18 @@
-//! The program `calls` held to the model, line by line, and its two loads to each other. A
-//! list of calls on which they differ is made as short as it can be before it is printed.
+//! The program `calls` held to the model, line by line, its two loads to each other, and its
+//! room to its load and solve. A list of calls on which they differ is made as short as it can
+//! be before it is printed.
 
 use std::io;
 
 use crate::compare::alike;
 use crate::compare::calls_mismatch::{script, shortest, Compared, Mismatch};
+use crate::compare::own_figures;
 use crate::compare::program::{Answering, Feed};
 use crate::compare::tally::Tally;
 use crate::generate::calls;
 use crate::method::Method;
 use crate::pinned_calls::{self, SOLVE};
+use crate::pinned_rooms;
 use crate::pinned_row_calls;
 use crate::pinned_solves;
 use crate::planner::Planner;
@@ -23,9 +26,9 @@ const CALLS_IN_A_LIST: usize = 400;
 /// Calls in the first list, whose script is megabytes long.
 const CALLS_IN_THE_FIRST: usize = 10_000;
 /// Kinds that no record has; one of them ends the run.
-const UNKNOWN: [u8; 4] = [0, 3, 4, 255];
+const UNKNOWN: [u8; 5] = [0, 3, 4, 9, 255];
 
-/// The fixed lists, then so many random ones.
+/// The fixed lists, then so many random ones, then every tree.
 pub fn compare(
     program: &impl Answering,
     seed: u64,
@@ -47,7 +50,7 @@ pub fn compare(
             return Ok(Err(mismatch));
         }
     }
-    Ok(Ok(tally))
+    Ok(own_figures::compare(program, seed, &mut tally)?.map(|()| tally))
 }
 
 /// Holds the list to the model, then its loads from rows to ordinary loads.
@@ -107,7 +110,7 @@ fn compare_script(
 /// Lists of calls and what stands behind them: nothing, or an unknown record.
 fn fixed() -> impl Iterator<Item = (Vec<Call>, Vec<u8>)> {
     let lists = pinned_calls::lists().into_iter().chain(pinned_solves::lists());
-    let lists = lists.chain(pinned_row_calls::lists());
+    let lists = lists.chain(pinned_row_calls::lists()).chain(pinned_rooms::lists());
     let alone = lists.map(|calls| (calls, Vec::new()));
     alone.chain(UNKNOWN.map(|kind| (vec![SOLVE], unknown_then_solve(kind))))
 }
@@ -115,13 +118,14 @@ fn fixed() -> impl Iterator<Item = (Vec<Call>, Vec<u8>)> {
 /// What may stand behind the last record: nothing, a cut record, or an unknown one
 /// with good records behind it.
 fn tail(random: &mut Random) -> Vec<u8> {
-    let solve = SOLVE.record();
-    match random.below(6) {
-        0 => vec![random.pick(&[1, 2, 5, 6, 7])],
+    let (solve, room) = (SOLVE.record(), pinned_rooms::room(3, 2, &[0, 1, 1, 2]).record());
+    match random.below(7) {
+        0 => vec![random.pick(&[1, 2, 5, 6, 7, 8])],
         1 => vec![random.pick(&[1, 7]), 200, 0, 3, 3, 3],
         2 => vec![2; 40],
         3 => solve[..random.between(2, 8) as usize].to_vec(),
-        4 => unknown_then_solve(random.pick(&UNKNOWN)),
+        4 => room[..random.between(2, 22) as usize].to_vec(),
+        5 => unknown_then_solve(random.pick(&UNKNOWN)),
         _ => Vec::new(),
     }
 }
@@ -137,6 +141,7 @@ fn kind(call: &Call, answer: &str) -> String {
         Call::Link(_) => "link",
         Call::Solve { .. } => "solve",
         Call::Check { .. } => "check",
+        Call::Room(_) => "room",
     };
     let mut words = answer.split(' ');
     match (words.next(), words.next()) {

@@ -76,5 +76,11 @@ fn describe(call: &Call) -> String {
             format!("solve with {cells} cells into {output} bytes")
         }
         Call::Check { plan } => format!("check {}", hex(plan)),
+        Call::Room(draft) => format!(
+            "room of {} relations at {} sites, joins {}",
+            draft.relations,
+            draft.sites,
+            hex(&draft.joins)
+        ),
     }
 }

@@ -8,6 +8,7 @@ pub mod c_call;
 pub mod calls;
 pub mod calls_mismatch;
 pub mod cases;
+pub mod own_figures;
 pub mod plan;
 pub mod program;
 pub mod soak;

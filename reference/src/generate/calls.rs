@@ -6,10 +6,12 @@ use crate::generate::damage;
 use crate::generate::links;
 use crate::generate::plans;
 use crate::generate::queries::Extent;
+use crate::generate::rooms;
 use crate::generate::rows;
 use crate::generate::standing::Standing;
 use crate::limits::{LONGEST_PLAN, WORK_CELLS};
 use crate::random::Random;
+use crate::room::Draft;
 use crate::script::Call;
 use crate::stated::Form;
 
@@ -37,7 +39,8 @@ fn call(random: &mut Random, standing: &Standing, extent: &Extent) -> Call {
     match random.below(100) {
         0..=9 => load(random, extent),
         10..=24 => Call::Link(links::link(random, standing)),
-        25..=59 => solve(random, standing),
+        25..=55 => solve(random, standing),
+        56..=65 => room(random, standing),
         _ => {
             let plan = plan(random, standing);
             Call::Check { plan: long_at_times(random, plan) }
@@ -72,6 +75,12 @@ fn twins(random: &mut Random, standing: &mut Standing, extent: &Extent) -> Vec<C
 
 fn solve(random: &mut Random, standing: &Standing) -> Call {
     Call::Solve { cells: cells(random), output: output_length(random, standing) }
+}
+
+fn room(random: &mut Random, standing: &Standing) -> Call {
+    let draft = rooms::draft(random, standing);
+    let joins = long_at_times(random, draft.joins);
+    Call::Room(Draft { joins, ..draft })
 }
 
 /// Now and then as many bytes as a record can have.

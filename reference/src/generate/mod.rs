@@ -6,6 +6,8 @@ pub mod files;
 pub mod links;
 pub mod plans;
 pub mod queries;
+pub mod rooms;
 pub mod rows;
 pub mod standing;
+pub mod trees;
 pub mod unequal;

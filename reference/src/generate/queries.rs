@@ -103,6 +103,12 @@ pub fn query(random: &mut Random, extent: &Extent) -> Query {
     let s = random.between(*extent.sites.start(), *extent.sites.end()) as usize;
     let shape = random.pick(&Shape::ALL);
     let joins = joins(random, shape, n);
+    with_joins(random, joins, s)
+}
+
+/// A random query with these joins at so many sites.
+pub fn with_joins(random: &mut Random, joins: Vec<Join>, s: usize) -> Query {
+    let n = joins.len() + 1;
     let subqueries = tree::subqueries(&joins, n).len();
     let mood = if random.percent(30) { Mood::Ties } else { Mood::Mixed };
     let sites = sites(random, s, mood);
