@@ -24,6 +24,12 @@ def solve(cells, output):
     return struct.pack("<BII", 6, cells, output)
 
 
+def room(n, s, joins):
+    """joins: pairs, or bytes that need not be pairs."""
+    ends = joins if isinstance(joins, bytes) else b"".join(bytes(join) for join in joins)
+    return struct.pack("<BQQH", 8, n, s, len(ends)) + ends
+
+
 def steps(text):
     """The bytes of a plan: `l0 s2 j1` is load 0, send to 2, join 1."""
     words = text.split()

@@ -1,6 +1,6 @@
 """The state from call to call: what is refused by it, what a call leaves, and the limits of what is lent."""
-from script.queries import Q_FROM_ROWS, q
-from script.records import check, link, load, load_from_rows, no_route, refused, solve, solved, steps
+from script.queries import Q_FROM_ROWS, chain, q
+from script.records import check, link, load, load_from_rows, no_route, refused, room, solve, solved, steps
 
 WIDEST = 2**64 - 1
 
@@ -10,6 +10,9 @@ DETOUR = steps("l0 s2 l1 s2 j0 s0")
 
 
 def script():
+    # room needs no query
+    yield room(2, 3, chain(2)), ["room 3 9 3"]
+    yield room(10, 3, chain(2)), ["refused 2"]
     # 20: nothing is loaded, whatever else is wrong too
     yield link(0, 0, 2, WIDEST, WIDEST), ["refused 20"]
     yield solve(0, 0), refused(20)
@@ -20,6 +23,8 @@ def script():
     yield load(q() + b"\0"), ["refused 5"]
     yield solve(4096, 9), refused(20)
     yield load_from_rows(b"".join(Q_FROM_ROWS) + b"\0"), ["refused 5"]
+    yield solve(4096, 9), refused(20)
+    yield room(2, 3, chain(2)), ["room 3 9 3"]
     yield solve(4096, 9), refused(20)
     # Q; a refused call and a check leave the query, and the solve after them answers as the one before
     yield load(q()), ["load 2 3"]
