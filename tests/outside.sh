@@ -34,6 +34,12 @@ examples_packed() {
     done
 }
 
+# The figures of a draft, by way of calls.
+draft_shown() {
+    reference querytext room target/bin/calls <examples/draft.txt | tee target/outside/draft.txt
+    diff target/outside/draft.txt <(printf '%s\n' "subqueries 11" "cells 33" "trials 36")
+}
+
 # The stored lines of calls are stated by a script, not copied from what the program printed.
 calls_stated() {
     python3 crates/calls/make_stdin.py target/outside/stdin target/outside/stdout
@@ -49,6 +55,7 @@ echo "   the C tests: ok ($((SECONDS - began)) s)"
 stage "exit codes" tests/exits.sh
 stage "the stored cases of calls are the stated ones" calls_stated
 stage "the examples are packed from their texts" examples_packed
+stage "a draft's figures are shown by way of calls" draft_shown
 stage "the reference's own tests" own_tests
 stage "plan beside the reference" reference diff_plan target/bin/plan "$seed" ${files:+"$files"}
 stage "calls beside the reference" reference diff_calls target/bin/calls "$seed" ${lists:+"$lists"}

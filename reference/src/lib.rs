@@ -7,6 +7,7 @@
 //! to the model.
 
 pub mod answers;
+pub mod asked;
 pub mod c_call;
 pub mod check;
 pub mod compare;

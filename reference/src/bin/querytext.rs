@@ -1,17 +1,21 @@
 //! The readable form of a query to the bytes of its file, and back. `pack` says on standard
-//! error which load the file is for; `sizes` prints a text with rows as one with sizes.
+//! error which load the file is for; `sizes` prints a text with rows as one with sizes; `room`
+//! asks the built program `calls` how heavy a draft will be.
 
 use std::io::{self, Read, Write};
 use std::process::ExitCode;
 
+use reference::compare::program::Program;
 use reference::refusal::Refusal;
+use reference::room::Figures;
 use reference::stated::{Form, Stated};
-use reference::{decode, encode, text};
+use reference::{asked, decode, encode, text};
 
 const USAGE: &str = "usage: querytext pack < TEXT > FILE
        querytext unpack < FILE > TEXT         a file for load
        querytext unpack rows < FILE > TEXT    a file for load from rows
-       querytext sizes < TEXT > TEXT          rows and divisors in, the sizes worked out";
+       querytext sizes < TEXT > TEXT          rows and divisors in, the sizes worked out
+       querytext room CALLS < TEXT            the figures of a draft, by the program CALLS";
 
 fn main() -> ExitCode {
     let words: Vec<String> = std::env::args().skip(1).collect();
@@ -21,6 +25,7 @@ fn main() -> ExitCode {
         ["unpack"] => convert(|file| unpack(file, Form::Sizes)),
         ["unpack", "rows"] => convert(|file| unpack(file, Form::Rows)),
         ["sizes"] => convert(sizes),
+        ["room", calls] => convert(|text| room(text, calls)),
         _ => Err(USAGE.to_string()),
     };
     match result {
@@ -58,7 +63,19 @@ fn sizes(text: Vec<u8>) -> Result<Vec<u8>, String> {
     }
 }
 
+fn room(text: Vec<u8>, calls: &str) -> Result<Vec<u8>, String> {
+    let draft = text::draft(&utf8(text)?).map_err(|fault| fault.to_string())?;
+    let asked = asked::room(&Program::new(calls), &draft);
+    let answer = asked.map_err(|reason| format!("{calls}: {reason}"))?;
+    let Figures { subqueries, cells, trials } =
+        answer.map_err(|number| format!("refused {number}"))?;
+    Ok(format!("subqueries {subqueries}\ncells {cells}\ntrials {trials}\n").into_bytes())
+}
+
 fn parse(text: Vec<u8>) -> Result<Stated, String> {
-    let text = String::from_utf8(text).map_err(|_| "the text is not UTF-8")?;
-    text::parse(&text).map_err(|fault| fault.to_string())
+    text::parse(&utf8(text)?).map_err(|fault| fault.to_string())
+}
+
+fn utf8(text: Vec<u8>) -> Result<String, String> {
+    String::from_utf8(text).map_err(|_| "the text is not UTF-8".to_string())
 }

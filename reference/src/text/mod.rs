@@ -1,13 +1,16 @@
-//! A readable text form of a query, one statement a line; docs/TEXT-FORM.md describes
-//! it.
+//! A readable text form of a query or a draft, one statement a line; docs/TEXT-FORM.md
+//! describes it.
 
-mod draft;
+mod fault;
 mod parse;
 mod print;
+mod statements;
 mod told;
+mod whole;
 mod words;
 
-pub use parse::{parse, Fault};
+pub use fault::Fault;
+pub use parse::{draft, parse};
 pub use print::print;
 
 use crate::decode;

@@ -44,13 +44,22 @@ pub fn positive(word: &str, limit: u64) -> Result<u64, String> {
     }
 }
 
-/// Sites, relations and joins come in order.
-pub fn next_in_order(what: &str, word: &str, next: usize) -> Result<(), String> {
-    if word.parse() == Ok(next) {
-        Ok(())
-    } else {
-        Err(format!("{what} {next} comes next, not {word}"))
+/// Sites, relations and joins come in order, at most so many: of those that a statement names
+/// by its first and its last, the last.
+pub fn last_in_order(
+    what: &str,
+    [first, last]: [&str; 2],
+    next: usize,
+    most: usize,
+) -> Result<usize, String> {
+    if first.parse() != Ok(next) {
+        return Err(format!("{what} {next} comes next, not {first}"));
     }
+    let last = number(last, most as u64 - 1)? as usize;
+    if last < next {
+        return Err(format!("the last {what} comes before the first"));
+    }
+    Ok(last)
 }
 
 /// What may be said once.
