@@ -59,7 +59,7 @@ const WRONG_FIGURES: [(&str, Room); 7] = [
 ];
 
 /// Which draft is refused, and with which number.
-const WRONG_REFUSALS: [(&str, Room); 16] = [
+const WRONG_REFUSALS: [(&str, Room); 18] = [
     ("a relation out of range before the number of bytes", |_, draft| {
         let limits = (1..=9).contains(&draft.relations) && (1..=8).contains(&draft.sites);
         match draft.joins.iter().any(|&relation| u64::from(relation) >= draft.relations) {
@@ -73,8 +73,24 @@ const WRONG_REFUSALS: [(&str, Room); 16] = [
         }
         answer => answer,
     }),
-    ("4 before 3", |_, draft| match room(draft) {
+    ("a relation out of range as 4", |_, draft| match room(draft) {
         Err(Refusal::OutOfRange) => Err(Refusal::NotReached),
+        answer => answer,
+    }),
+    ("4 at a join of a relation with itself, before a later 3", |_, draft| match room(draft) {
+        Err(Refusal::OutOfRange) => {
+            let there = |&&relation: &&u8| u64::from(relation) < draft.relations;
+            let read = draft.joins.iter().take_while(there).count();
+            let mut pairs = draft.joins[..read].chunks_exact(2);
+            let itself = pairs.any(|ends| ends[0] == ends[1]);
+            Err(if itself { Refusal::NotReached } else { Refusal::OutOfRange })
+        }
+        answer => answer,
+    }),
+    ("joins that do not reach all admitted", |_, draft| match room(draft) {
+        Err(Refusal::NotReached) => {
+            Ok(figures(&joins(draft), draft.relations as usize, draft.sites as usize))
+        }
         answer => answer,
     }),
     ("a pair more admitted", |_, draft| match draft.joins.len() {
@@ -95,9 +111,7 @@ const WRONG_REFUSALS: [(&str, Room); 16] = [
         if draft.relations != 10 || draft.joins.len() != 18 || !there || !sites {
             return room(draft);
         }
-        let join = |ends: &[u8]| Join { first: ends[0].into(), second: ends[1].into() };
-        let joins: Vec<Join> = draft.joins.chunks(2).map(join).collect();
-        Ok(figures(&joins, 10, draft.sites as usize))
+        Ok(figures(&joins(draft), 10, draft.sites as usize))
     }),
     ("nine sites admitted", |_, draft| match draft.sites {
         9 => at_one_site(draft, 9),
@@ -162,6 +176,11 @@ const WRONG_STATES: [(&str, Room); 5] = [
         answer
     }),
 ];
+
+fn joins(draft: &Draft) -> Vec<Join> {
+    let join = |ends: &[u8]| Join { first: ends[0].into(), second: ends[1].into() };
+    draft.joins.chunks_exact(2).map(join).collect()
+}
 
 fn without_the_last(draft: &Draft, bytes: usize) -> Answer {
     let joins = draft.joins[..draft.joins.len() - bytes].to_vec();

@@ -109,8 +109,8 @@ fn compare_script(
 
 /// Lists of calls and what stands behind them: nothing, or an unknown record.
 fn fixed() -> impl Iterator<Item = (Vec<Call>, Vec<u8>)> {
-    let lists = pinned_calls::lists().into_iter().chain(pinned_solves::lists());
-    let lists = lists.chain(pinned_row_calls::lists()).chain(pinned_rooms::lists());
+    let lists = pinned_rooms::lists().into_iter().chain(pinned_calls::lists());
+    let lists = lists.chain(pinned_solves::lists()).chain(pinned_row_calls::lists());
     let alone = lists.map(|calls| (calls, Vec::new()));
     alone.chain(UNKNOWN.map(|kind| (vec![SOLVE], unknown_then_solve(kind))))
 }

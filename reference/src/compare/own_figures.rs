@@ -75,18 +75,17 @@ pub fn held(shapes: &str, relations: u64) -> String {
 /// Every tree, then chains and stars of nine at every number of sites. Each has random
 /// prices, with sites that may not join and closed lines among them.
 pub fn compare(program: &impl Answering, seed: u64, tally: &mut Tally) -> Compared {
-    let random = &mut Random::new(seed);
     let trees = (1..=MOST_RELATIONS).flat_map(trees::every).enumerate();
-    let mut cases: Vec<Case> = trees
-        .map(|(number, joins)| Case::new(random, "trees", joins, 1 + number % MOST_SITES))
-        .collect();
-    for sites in 1..=MOST_SITES {
-        for joins in [pinned::chain(9), pinned::star(9)] {
-            cases.push(Case::new(random, "chains and stars", joins, sites));
-        }
-    }
-    for cases in cases.chunks(IN_A_SCRIPT) {
-        if let Err(mismatch) = compare_cases(program, cases, tally)? {
+    let trees = trees.map(|(number, joins)| ("trees", joins, 1 + number % MOST_SITES));
+    let longest = (1..=MOST_SITES).flat_map(|sites| {
+        [pinned::chain(9), pinned::star(9)].map(|joins| ("chains and stars", joins, sites))
+    });
+    let random = &mut Random::new(seed);
+    let case = |(shapes, joins, sites)| Case::new(random, shapes, joins, sites);
+    let mut cases = trees.chain(longest).map(case).peekable();
+    while cases.peek().is_some() {
+        let some: Vec<Case> = cases.by_ref().take(IN_A_SCRIPT).collect();
+        if let Err(mismatch) = compare_cases(program, &some, tally)? {
             return Ok(Err(mismatch));
         }
     }
