@@ -19,6 +19,7 @@ pub mod Longest
 pub mod Local
 pub mod LocalSections
 pub mod InOrder
+pub mod Used
 pub mod Bytes
 pub mod SizesWritten
 pub mod RowsAsSizes

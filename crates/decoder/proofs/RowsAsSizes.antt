@@ -10,22 +10,22 @@ use lib.Pow.{pow-mono}
 use Rattle.relations.specs.declared.Joins.{Joins}
 use Rattle.relations.proofs.SubqueriesMost.{subqueries-most}
 use Rattle.query.specs.declared.Query.{Query}
-use Rattle.query.specs.Query.{Valid, relationsOf, sitesOf}
+use Rattle.query.specs.Query.{Valid, relationsOf}
 use Rattle.sizing.proofs.Most.{SizesIn, worked-sizes-is}
 use Rattle.decoder.specs.declared.Form.the-variants as form
-use Rattle.decoder.specs.Fields.{Read, value}
-use Rattle.decoder.specs.Decode.{sitesSection, relationsSection, joinsSection, sizesSection, countsSection, rowsSections}
+use Rattle.decoder.specs.Fields.{value}
+use Rattle.decoder.specs.Decode.{sizesSection, countsSection, rowsSections}
 use Rattle.decoder.specs.Length.{beforeSizes, rowsLength}
 use Rattle.decoder.specs.Ordinary.{sizesBytes, linesFrom, ordinary}
 use Rattle.decoder.specs.Theorems.{RowsAsSizes}
 use Rattle.decoder.proofs.Gives.{Has, gives-then}
 use Rattle.decoder.proofs.RowRanges.{counts-in}
-use Rattle.decoder.proofs.Lengths.{Takes}
-use Rattle.decoder.proofs.SectionLengths.{sites-take, relations-take, joins-take, rows-take}
+use Rattle.decoder.proofs.SectionLengths.{rows-take}
 use Rattle.decoder.proofs.Valid.{decode-valid}
 use Rattle.decoder.proofs.Local.{Splits}
-use Rattle.decoder.proofs.LocalSections.{sites-local, relations-local, joins-local, rows-local}
+use Rattle.decoder.proofs.LocalSections.{rows-local}
 use Rattle.decoder.proofs.InOrder.{Sections, sections-of, by-sections}
+use Rattle.decoder.proofs.Used.{used-length, sites, relations, joins, sites-length, relations-length, joins-length, before-sizes}
 use Rattle.decoder.proofs.SizesWritten.{sizes-again}
 
 -- Sizes that were worked out from row counts and divisors stand at the subqueries.
@@ -34,12 +34,6 @@ unfolding rowsSections
 worked-in J n l =
     gives-then _ _ (countsSection n l) _ (counts-in n l) λ rows m r.
     gives-then _ _ (countsSection (n - 1) m) _ (counts-in (n - 1) m) λ divisors o d. worked-sizes-is J n rows divisors
-
--- A local reading used as many bytes as it takes.
-used-length :
-    {A : Type 0} (size : A → ℕ) (read : List ℕ → Read A) (l : List ℕ) (a : A) (r : List ℕ) → Takes size read → read l ≡ value a r → (s : Splits read l a r) →
-    length (s .used) ≡ size a
-used-length size read l a r takes e s = omega (arith, rw e at (takes l), length-append (s .used) r, ap length (s .is))
 
 -- A list of five parts, with another part in the place of the fourth.
 replaced :
@@ -54,41 +48,31 @@ replaced a b c d new r k m e f =
     rw (front, back) (simp append-assoc)
 
 module _ (file : List ℕ) (q : Query) (l : List ℕ) (v : Valid q) (p : Sections form.Rows file q l) where
-  sites : Splits sitesSection file (q .sites) (p .sites-left)
-  sites = sites-local file (q .sites) (p .sites-left) (p .sites-are)
-
-  relations : Splits (relationsSection (sitesOf q)) (p .sites-left) (q .relations) (p .relations-left)
-  relations = relations-local (sitesOf q) (p .sites-left) (q .relations) (p .relations-left) (p .relations-are)
-
-  joins : Splits (joinsSection (relationsOf q)) (p .relations-left) (q .joins) (p .joins-left)
-  joins = joins-local (relationsOf q) (p .relations-left) (q .joins) (p .joins-left) (p .joins-are)
-
   rows : Splits (rowsSections (q .joins) (relationsOf q)) (p .joins-left) (q .sizes) (p .sizes-left)
   rows = rows-local (q .joins) (relationsOf q) (p .joins-left) (q .sizes) (p .sizes-left) (p .sizes-are)
 
-  used-before : length (sites .used ++ (relations .used ++ joins .used)) ≡ beforeSizes q
+  used-before : length (sites p .used ++ (relations p .used ++ joins p .used)) ≡ beforeSizes q
   used-before =
       omega (
         arith,
-        length-append (sites .used) (relations .used ++ joins .used),
-        length-append (relations .used) (joins .used),
-        used-length _ _ file (q .sites) (p .sites-left) sites-take (p .sites-are) sites,
-        used-length _ _ (p .sites-left) (q .relations) (p .relations-left) (relations-take (sitesOf q)) (p .relations-are) relations,
-        used-length _ _ (p .relations-left) (q .joins) (p .joins-left) (joins-take (relationsOf q)) (p .joins-are) joins,
+        length-append (sites p .used) (relations p .used ++ joins p .used),
+        length-append (relations p .used) (joins p .used),
+        sites-length p,
+        relations-length p,
+        joins-length p,
       )
 
   used-rows : length (rows .used) ≡ rowsLength (relationsOf q)
   used-rows = used-length _ _ (p .joins-left) (q .sizes) (p .sizes-left) (rows-take (q .joins) (relationsOf q)) (p .sizes-are) rows
 
-  file-is : file ≡ sites .used ++ (relations .used ++ (joins .used ++ (rows .used ++ p .sizes-left)))
-  file-is = sites .is ∙ ap (λ (m : List ℕ). sites .used ++ m)
-      (relations .is ∙ ap (λ (m : List ℕ). relations .used ++ m) (joins .is ∙ ap (λ (m : List ℕ). joins .used ++ m) (rows .is)))
+  file-is : file ≡ sites p .used ++ (relations p .used ++ (joins p .used ++ (rows .used ++ p .sizes-left)))
+  file-is = before-sizes p ∙ ap (λ (m : List ℕ). sites p .used ++ (relations p .used ++ (joins p .used ++ m))) (rows .is)
 
-  ordinary-is : ordinary q file ≡ sites .used ++ (relations .used ++ (joins .used ++ (sizesBytes q ++ p .sizes-left)))
+  ordinary-is : ordinary q file ≡ sites p .used ++ (relations p .used ++ (joins p .used ++ (sizesBytes q ++ p .sizes-left)))
   unfolding ordinary
   ordinary-is =
       ap (ordinary q) file-is
-      ∙ replaced (sites .used) (relations .used) (joins .used) (rows .used) (sizesBytes q) (p .sizes-left) (beforeSizes q) (linesFrom q) used-before
+      ∙ replaced (sites p .used) (relations p .used) (joins p .used) (rows .used) (sizesBytes q) (p .sizes-left) (beforeSizes q) (linesFrom q) used-before
       (omega (arith, used-rows))
 
   sizes-read : sizesSection (q .joins) (relationsOf q) (sizesBytes q ++ p .sizes-left) ≡ value (q .sizes) (p .sizes-left)
@@ -97,15 +81,15 @@ module _ (file : List ℕ) (q : Query) (l : List ℕ) (v : Valid q) (p : Section
       (pow-mono {i = relationsOf q} {j = 9} (v .relations-most)) (p .sizes-left)
       (omega (arith, v .tree .joins, subqueries-most (q .joins) (relationsOf q) (v .tree), pow-mono {i = q .joins .count} {j = 8} (omega arith)))
 
-  ordinary-sections : Sections form.Sizes (sites .used ++ (relations .used ++ (joins .used ++ (sizesBytes q ++ p .sizes-left)))) q l
+  ordinary-sections : Sections form.Sizes (sites p .used ++ (relations p .used ++ (joins p .used ++ (sizesBytes q ++ p .sizes-left)))) q l
   ordinary-sections = record {
-    sites-left = relations .used ++ (joins .used ++ (sizesBytes q ++ p .sizes-left));
-    relations-left = joins .used ++ (sizesBytes q ++ p .sizes-left);
+    sites-left = relations p .used ++ (joins p .used ++ (sizesBytes q ++ p .sizes-left));
+    relations-left = joins p .used ++ (sizesBytes q ++ p .sizes-left);
     joins-left = sizesBytes q ++ p .sizes-left;
     sizes-left = p .sizes-left;
-    sites-are = sites .again _;
-    relations-are = relations .again _;
-    joins-are = joins .again _;
+    sites-are = sites p .again _;
+    relations-are = relations p .again _;
+    joins-are = joins p .again _;
     reached = p .reached;
     sizes-are = sizes-read;
     rest-is = p .rest-is;
