@@ -19,7 +19,7 @@ use Rattle.planner.specs.Load.{loadDecoded, loadBy}
 use Rattle.planner.specs.Link as linking
 use Rattle.planner.specs.Link.{Link, linkOf, sitesListed, termsInRange, link}
 use Rattle.planner.specs.Contracts.{stateOf, Sound}
-use Rattle.claim.specs.Lists.{Call, afterLoad, afterLink, inForce, Runs, at-first, loads, loads-rows, links, solves, checks}
+use Rattle.claim.specs.Lists.{Call, afterLoad, afterLink, inForce, Runs, at-first, loads, loads-rows, links, solves, checks, rooms}
 
 pub sound : {calls : List Call} {p : Planner} → Runs calls p → Sound p
 sound (at-first e) = e .1
@@ -28,6 +28,7 @@ sound (loads-rows κs file last r w e) = e .1
 sound (links a b f x r d w e) = e .1
 sound (solves κs cells cells' output output' r w e) = sound w
 sound (checks κs plan last r w e) = sound w
+sound (rooms κs n s pairs last r w e) = sound w
 
 -- What each call's definition does to the query that stands.
 decoded-query : (x : Read Query) (s : State) → loadDecoded x s .next ≡ afterLoad x s
@@ -59,3 +60,4 @@ stands (loads-rows {p} κs file last r w e) =
 stands (links {p} a b f x r d w e) = left-standing (e .0) ∙ link-query (linkOf a b f x r) (stateOf p) ∙ ap (afterLink (linkOf a b f x r)) (stands w)
 stands (solves κs cells cells' output output' r w e) = stands w
 stands (checks κs plan last r w e) = stands w
+stands (rooms κs n s pairs last r w e) = stands w

@@ -1,4 +1,5 @@
 -- Demand 3: the query in force stands in the planner and is valid, so the two bounds on the tables' figure hold of it.
+use Prim.{tt}
 use Prim.Native.Nat.{ℕ, _+_, _≤_}
 use native.Mathlib.Omega.{arith}
 use mathlib.Core.Path.{_≡_, refl, sym, ap, subst, _∙_}
@@ -33,8 +34,15 @@ use Rattle.claim.proofs.InForce.{sound, stands}
 
 pub every-call : EveryCall
 every-call calls p w =
-    let s = sound w in
-    record { load = λ κs file. s; load-rows = λ κs file. s; link = λ a b f x r. s; solve = λ κs cells output. s; check = λ κs plan. s }
+    let h = sound w in
+    record {
+      load = λ κs file. h;
+      load-rows = λ κs file. h;
+      link = λ a b f x r. h;
+      solve = λ κs cells output. h;
+      check = λ κs plan. h;
+      room = λ κs n s pairs. tt;
+    }
 
 -- The query that stands in a sound planner is valid.
 standing-valid : (p : Planner) (q : Query) → Sound p → stateOf p ≡ some q → Valid q
@@ -45,20 +53,20 @@ standing-valid p q s = go (p .loaded) refl
     go false e f = absurd (let z : _≡_ {A = ℕ} 0 1 = cc in omega arith)
 
 -- An admitted solve has a query in force, cells enough, and room for the plan if there is one.
-record Admitted (s : State) (cells bytes : ℕ) : Type 0 where
-  query : Query
-  in-force : s ≡ some query
-  enough : cellsNeeded query ≤ cells
-  room : hasRoom query (cheapest _+_ query) bytes ≡ true
+pub record Admitted (s : State) (cells bytes : ℕ) : Type 0 where
+  pub query : Query
+  pub in-force : s ≡ some query
+  pub enough : cellsNeeded query ≤ cells
+  pub room : hasRoom query (cheapest _+_ query) bytes ≡ true
 
-admitted : (s : State) (cells bytes : ℕ) → solveAdmitted s cells bytes ≡ true → Admitted s cells bytes
+pub admitted : (s : State) (cells bytes : ℕ) → solveAdmitted s cells bytes ≡ true → Admitted s cells bytes
 admitted none cells bytes e = absurd (let z : _≡_ {A = ℕ} 0 1 = cc in omega arith)
 admitted (some q) cells bytes e =
     let h = and-eq-true-iff (leb (cellsNeeded q) cells) (hasRoom q (cheapest _+_ q) bytes) .0 e in
     record { query = q; in-force = refl; enough = leb-true (cellsNeeded q) cells (h .0); room = h .1 }
 
 -- A plan that is found, and has room, is written.
-written-is :
+pub written-is :
     (q : Query) (c : ℕ) (out : List ℕ) → hasRoom q (Cost.some c) (length out) ≡ true →
     solved q (Cost.some c) out ≡ (let plan = written _+_ q in solvingOf (found c (length plan) (trials q)) (plan ++ drop (length plan) out))
 written-is q c out room = writing-fits c (trials q) (written _+_ q) out (leb-true (length (written _+_ q)) (length out) room)

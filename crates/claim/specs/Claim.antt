@@ -1,5 +1,5 @@
--- The promise, whole: a claim over every list of load, link, solve and check calls, refused ones included, that starts from an empty
--- planner and ends in an admitted solve. Proved in proofs/Promise.antt.
+-- The promise, whole: a claim over every list of load, link, solve, check and room calls, refused ones included, that starts from an
+-- empty planner and ends in an admitted solve. Proved in proofs/Promise.antt.
 use Prim.{tt}
 use Prim.Native.Nat.{ℕ, _+_, _≤_}
 use mathlib.Core.Path.{_≡_}
@@ -23,6 +23,7 @@ use Rattle.planner.proofs.load_rows.Reads as Load-rows
 use Rattle.planner.proofs.link.Reads as Link
 use Rattle.planner.proofs.solve.Reads as Solve
 use Rattle.planner.proofs.check.Reads as Check
+use Rattle.room.proofs.room.Reads as Room
 use Rattle.claim.specs.Lists.{Call, inForce, Runs}
 
 -- Nobody can write a plan for the query.
@@ -75,6 +76,7 @@ pub record Callable (p : Planner) : Type 0 where
   pub link : (a b f x r : ℕ) → Link.Pre tt (p, (a, (b, (f, (x, (r, tt))))))
   pub solve : (κs : Lfts 2) (cells output : RefT (List ℕ)) → Solve.Pre κs (p, (cells, (output, tt)))
   pub check : (κs : Lfts 1) (plan : RefT (List ℕ)) → Check.Pre κs (p, (plan, tt))
+  pub room : (κs : Lfts 1) (n s : ℕ) (pairs : RefT (List ℕ)) → Room.Pre κs (n, (s, (pairs, tt)))
 
 abbrev pub EveryCall : Type 0
 EveryCall = (calls : List Call) (p : Planner) → Runs calls p → Callable p

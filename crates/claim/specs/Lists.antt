@@ -24,6 +24,8 @@ use Rattle.planner.proofs.load_rows.Reads as Load-rows
 use Rattle.planner.proofs.link.Reads as Link-reads
 use Rattle.planner.proofs.solve.Reads as Solve
 use Rattle.planner.proofs.check.Reads as Check
+use Rattle.room.specs.declared.RoomAnswer.{RoomAnswer}
+use Rattle.room.proofs.room.Reads as Room
 
 -- A call with its own arguments, input bytes and lent areas, with anything in them.
 pub data Call : Type 0 where
@@ -32,6 +34,7 @@ pub data Call : Type 0 where
   link : (sender receiver opened fixed rate : ℕ) → Call
   solve : (cells output : List ℕ) → Call
   check : (plan : List ℕ) → Call
+  room : (n s : ℕ) (pairs : List ℕ) → Call
 
 -- What a call does to the query in force. An admitted load of either form puts its query in force.
 abbrev pub afterLoad : Read Query → Option Query → Option Query
@@ -43,13 +46,14 @@ abbrev pub afterLink : Link → Option Query → Option Query
 afterLink l none = none
 afterLink l (some q) = pick (sitesListed (sitesOf q) (l .sender) (l .receiver)) (pick (termsInRange (l .terms)) (some (relinedBy q l)) (some q)) (some q)
 
--- Solve, check and every refused call leave it as it is.
+-- Solve, check, room and every refused call leave it as it is.
 abbrev pub force : Call → Option Query → Option Query
 force (load file) o = afterLoad (decode form.Sizes file) o
 force (load-rows file) o = afterLoad (decode form.Rows file) o
 force (link a b f x r) o = afterLink (linkOf a b f x r) o
 force (solve cells output) o = o
 force (check plan) o = o
+force (room n s pairs) o = o
 
 -- The query in force after a list of calls, the latest first. At first there is none.
 unfoldable pub inForce : List Call → Option Query
@@ -58,6 +62,7 @@ inForce (c ∷ calls) = force c (inForce calls)
 
 -- The planners that a list of calls, the latest first, can give: the first call gets an empty planner, each later one the planner that
 -- the call before it returned or left. What a call returns is whatever its function's own contract (`Post`) allows, refused calls included.
+-- Room takes no planner, so that it leaves the one that stands.
 pub data Runs : List Call → Planner → Type 0 where
   at-first : {p : Planner} → Empty.Post tt tt p tt → Runs [] p
   loads :
@@ -75,3 +80,6 @@ pub data Runs : List Call → Planner → Type 0 where
   checks :
       {calls : List Call} {p : Planner} (κs : Lfts 1) (plan last : RefT (List ℕ)) (r : CheckAnswer) →
       Runs calls p → Check.Post κs (p, (plan, tt)) r (p, (last, tt)) → Runs (check (now plan) ∷ calls) p
+  rooms :
+      {calls : List Call} {p : Planner} (κs : Lfts 1) (n s : ℕ) (pairs last : RefT (List ℕ)) (r : RoomAnswer) →
+      Runs calls p → Room.Post κs (n, (s, (pairs, tt))) r (n, (s, (last, tt))) → Runs (room n s (now pairs) ∷ calls) p
