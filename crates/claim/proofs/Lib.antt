@@ -1,2 +1,4 @@
 pub mod InForce
 pub mod Promise
+pub mod PairsAgain
+pub mod Foretold
