@@ -3,6 +3,7 @@ use crate::lent::cells_kept;
 use crate::lent::output_kept;
 use crate::printing::hex;
 use crate::printing::line;
+use crate::printing::line_three;
 use crate::printing::line_two;
 use crate::printing::number;
 use crate::printing::text;
@@ -11,6 +12,7 @@ use planner::CheckAnswer;
 use planner::LinkAnswer;
 use planner::LoadAnswer;
 use planner::SolveAnswer;
+use room::RoomAnswer;
 ghost use Prim.Native.Nat.{_≤_};
 
 pub(crate) fn of_load(a: LoadAnswer) -> bool {
@@ -104,5 +106,16 @@ pub(crate) fn of_check(a: CheckAnswer) -> bool {
     match a {
         CheckAnswer::Accepted { cost } => line(b"check ", cost.0),
         CheckAnswer::Refused { number, place } => say_refused(number, place),
+    }
+}
+
+pub(crate) fn of_room(a: RoomAnswer) -> bool {
+    match a {
+        RoomAnswer::Figures {
+            subqueries,
+            cells,
+            trials,
+        } => line_three(b"room ", subqueries, cells, trials),
+        RoomAnswer::Refused(k) => line(b"refused ", k),
     }
 }

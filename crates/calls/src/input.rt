@@ -62,11 +62,18 @@ pub(crate) fn at_most(n: u64, most: usize) -> usize
     if n < most as u64 { n as usize } else { most }
 }
 
-// Reads so many bytes to the front of the buffer: whether they were all there.
-pub(crate) fn fill(buffer: &mut [u8], n: usize) -> bool
-    requires { ⌜ n ≤ length (now buffer) ⌝ }
+// u16 length, bytes: reads the bytes to the front of the buffer, and answers how many they are.
+pub(crate) fn counted(buffer: &mut [u8]) -> Got
+    requires { ⌜ 65536 ≤ length (now buffer) ⌝ }
 {
-    io::read_full(STDIN_FILENO, &mut buffer[0..n]) == n
+    let Got::Number(length) = two_bytes() else {
+        return Got::Cut;
+    };
+    let n = at_most(length, 65536);
+    if io::read_full(STDIN_FILENO, &mut buffer[0..n]) < n {
+        return Got::Cut;
+    }
+    Got::Number(length)
 }
 
 // The front of a buffer, or all of a shorter one.

@@ -21,6 +21,11 @@ pub(crate) fn line_two(word: &[u8], n: u64, m: u64) -> bool {
     text(word) && number(n) && line(b" ", m)
 }
 
+// A line of a word and three numbers.
+pub(crate) fn line_three(word: &[u8], n: u64, m: u64, k: u64) -> bool {
+    text(word) && number(n) && line_two(b" ", m, k)
+}
+
 fn hex_digit(d: u8) -> u8 {
     let low = d % 16;
     if low < 10 { 48 + low } else { 87 + low }

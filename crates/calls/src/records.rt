@@ -52,6 +52,7 @@ pub(crate) fn next(p: Planner) -> After
         5 => check(p),
         6 => solve(p),
         7 => load(p, true),
+        8 => room(p),
         _ => end(p),
     }
 }
@@ -72,15 +73,11 @@ fn load(p: Planner, from_rows: bool) -> After
     requires { ⌜ Sound p ⌝ }
     ensures { λ r. ⌜ Sound (r .planner) ⌝ }
 {
-    let Got::Number(length) = input::two_bytes() else {
+    let mut bytes = io::large_buffer();
+    let Got::Number(length) = input::counted(&mut bytes) else {
         return end(p);
     };
-    let mut bytes = io::large_buffer();
-    let n = input::at_most(length, 65536);
-    if !input::fill(&mut bytes, n) {
-        return end(p);
-    }
-    let d = loaded(p, from_rows, input::front(&bytes, n));
+    let d = loaded(p, from_rows, input::front(&bytes, length as usize));
     let a = d.answer;
     answered(d.planner, answers::of_load(a))
 }
@@ -115,15 +112,11 @@ fn check(p: Planner) -> After
     requires { ⌜ Sound p ⌝ }
     ensures { λ r. ⌜ Sound (r .planner) ⌝ }
 {
-    let Got::Number(length) = input::two_bytes() else {
+    let mut bytes = io::large_buffer();
+    let Got::Number(length) = input::counted(&mut bytes) else {
         return end(p);
     };
-    let mut bytes = io::large_buffer();
-    let n = input::at_most(length, 65536);
-    if !input::fill(&mut bytes, n) {
-        return end(p);
-    }
-    let a = planner::check(p, input::front(&bytes, n));
+    let a = planner::check(p, input::front(&bytes, length as usize));
     answered(p, answers::of_check(a))
 }
 
@@ -148,4 +141,23 @@ fn solve(p: Planner) -> After
         lent::front_output(&mut output, m),
     );
     answered(p, answers::of_solve(a, &cells, n, &output, m))
+}
+
+// 8 room: n and s as two u64, u16 length, join bytes. It takes no planner, so that the run goes on with the one that stands.
+fn room(p: Planner) -> After
+    requires { ⌜ Sound p ⌝ }
+    ensures { λ r. ⌜ Sound (r .planner) ⌝ }
+{
+    let Got::Number(n) = input::eight_bytes() else {
+        return end(p);
+    };
+    let Got::Number(s) = input::eight_bytes() else {
+        return end(p);
+    };
+    let mut bytes = io::large_buffer();
+    let Got::Number(length) = input::counted(&mut bytes) else {
+        return end(p);
+    };
+    let a = room::room(n, s, input::front(&bytes, length as usize));
+    answered(p, answers::of_room(a))
 }
