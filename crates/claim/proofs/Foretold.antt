@@ -60,8 +60,8 @@ links-keep t (l ∷ links) s h = link-keeps t l (afterLinks links s) (links-keep
 
 -- Whatever the query costs, its trials are answered.
 trials-answered : (q : Query) (c : Cost) (out : List ℕ) → hasRoom q c (length out) ≡ true → trialsIn (solved q c out .answer) ≡ some (trials q)
-trials-answered q Cost.none out room = refl
-trials-answered q (Cost.some c) out room = rw (written-is q c out room)
+trials-answered q Cost.none out fits = refl
+trials-answered q (Cost.some c) out fits = rw (written-is q c out fits)
 
 solve-tells :
     (t : ℕ) (s : State) → HasTrials t s → (cells : ℕ) (out : List ℕ) → solveAdmitted s cells (length out) ≡ true → trialsIn (solve cells out s .answer) ≡ some t
