@@ -26,9 +26,9 @@ module _ (o : Outcome) (used : ℕ) (l : List ℕ) (whole : o ≡ Whole) where
       let f : value a (drop used l) ≡ x = rw whole at e in
       rw (sym f) at has
 
-  pub joins-kept : (n : ℕ) (J : Joins) → (1 ≤ n) × (n ≤ 9) → readOf o J used l ≡ joinsSection n l → Drawn J × (J .count + 1 ≡ n)
-  joins-kept n J b e =
-      let k = kept (JoinsIn n) _ (joins-in n l) J e in
+  pub joins-kept : (n : ℕ) (section : List ℕ) (J : Joins) → (1 ≤ n) × (n ≤ 9) → readOf o J used l ≡ joinsSection n section → Drawn J × (J .count + 1 ≡ n)
+  joins-kept n section J b e =
+      let k = kept (JoinsIn n) _ (joins-in n section) J e in
       (record { few = omega arith; first-in = λ i h. omega (arith, k .firsts i); second-in = λ i h. omega (arith, k .seconds i) }, omega arith)
 
 -- Joins that can be grown along, and that reach every relation, make a tree.

@@ -7,6 +7,7 @@ pub mod Reading
 pub mod ItemLaws
 pub mod Loops
 pub mod SectionLaws
+pub mod Pairs
 pub mod LineLaws
 pub mod SizeLaws
 pub mod Kept

@@ -11,7 +11,9 @@ pub use decoding::Decoded;
 pub use decoding::decode;
 pub use items::MOST_FIXED;
 pub use items::MOST_RATE;
+pub use sections::JoinsRead;
 pub use sections::Outcome;
+pub use sections::read_pairs;
 
 // Which sections a file has between Joins and Lines: the sizes of its subqueries, or row counts and divisors from which they are worked out.
 pub enum Form {

@@ -16,8 +16,9 @@ use query::no_joins;
 use query::no_relations;
 use query::no_sites;
 use relations::Joins;
-ghost use Prim.Native.Nat.{_≤_};
+ghost use Prim.Native.Nat.{_-_, _*_, _≤_};
 ghost use mathlib.Core.Path.{_≡_};
+ghost use mathlib.Core.List.{_∷_};
 ghost use Rattle.decoder.specs.Decode.{sitesSection, relationsSection, joinsSection, deliverySection};
 ghost use Rattle.decoder.specs.Code.{readOf};
 
@@ -134,23 +135,34 @@ pub(crate) fn read_relations(part: &[u8], s: usize) -> RelationsRead
     }
 }
 
-// Joins of n relations: first relation, second relation.
+// Joins of n relations: their count, then the pairs.
 pub(crate) fn read_joins(part: &[u8], n: usize) -> JoinsRead
     requires { ⌜ (1 ≤ n) × (n ≤ 9) ⌝ }
     ensures { λ r. ⌜ readOf (r .outcome) (r .joins) (r .used) (now (part .entry)) ≡ joinsSection n (now (part .entry)) ⌝ }
 {
     let due = (n - 1) as u64;
     let c = count_field(part, due, due);
-    let Field::Value(m) = c else {
+    let Field::Value(_) = c else {
         return JoinsRead {
             outcome: Outcome::Refused(fault(c)),
             used: 0,
             joins: no_joins(0),
         };
     };
-    let count = m as usize;
+    let mut read = read_pairs(part_from(part, 1), n);
+    read.used += 1;
+    read
+}
+
+// The pairs of n - 1 joins, as they stand behind a count that is as due: first relation, second relation.
+pub fn read_pairs(part: &[u8], n: usize) -> JoinsRead
+    requires { ⌜ (1 ≤ n) × (n ≤ 9) ⌝ }
+    ensures value { λ r. ⌜ readOf (r .outcome) (r .joins) (r .used) (now (part .entry)) ≡ joinsSection n ((n - 1) ∷ now (part .entry)) ⌝ }
+    ensures small { λ r. ⌜ r .used ≤ 2 * n ⌝ }
+{
+    let count = n - 1;
     let mut joins = no_joins(count);
-    let mut at = 1;
+    let mut at = 0;
     let mut i = 0;
     while i < count {
         let t = read_two(part_from(part, at), n, n);

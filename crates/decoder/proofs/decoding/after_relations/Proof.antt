@@ -16,5 +16,5 @@ after-relations-spec =
     (λ c κs. search needs)
     (λ c. search (needs, ends))
     (λ c κs. search needs)
-    (λ c κs. (search needs, joins-kept _ _ _ (c .before .enum-told .given .1) _ _ (search needs) (c .before .before .before .read-joins .ensures)))
+    (λ c κs. (search needs, joins-kept _ _ _ (c .before .enum-told .given .1) _ _ _ (search needs) (c .before .before .before .read-joins .ensures)))
     (λ c. search (needs, goes-on)))
