@@ -16,12 +16,13 @@ use Rattle.query.specs.declared.Query.{Query}
 use Rattle.query.specs.Query.{relationsOf}
 use Rattle.rules.specs.Combine.{Combines}
 use Rattle.tables.proofs.Tables.{ones-some}
+use Rattle.tables.proofs.Trials.{joins-below}
 use Rattle.filler.specs.Cells.{Stored}
 use Rattle.board.specs.Board.{joinsAt}
 use Rattle.filler.specs.Trials.{Lent, lent, sizeIn, startIn, deliveredIn}
 use Rattle.filler.specs.Filling.{LaidOut, Startable, Fillable}
 use Rattle.filler.proofs.Columns.{startable, cells-are}
-use Rattle.filler.proofs.SetsFilled.{Going, joins-below, going-skip, going-on}
+use Rattle.filler.proofs.SetsFilled.{Going, going-skip, going-on}
 
 module _ (q : Query) (l : Lent) (table : List ℕ) (f : Fillable q l table) where
   pub joins-few : joinsAt (l .board) ≤ 8

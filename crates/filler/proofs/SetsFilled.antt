@@ -1,26 +1,24 @@
 -- Sets in ascending number: each set leaves the cells of every subquery below the next set filled, the later cells as they were, and the joins counted.
-use Prim.Native.Nat.{ℕ, zero, suc, _+_, _-_, _*_, _^_, _≤_, _<_}
-use native.Mathlib.Nat.{le-refl, le-of-suc-le-suc, eq-or-lt-of-le}
+use Prim.Native.Nat.{ℕ, _+_, _-_, _^_, _≤_, _<_}
+use native.Mathlib.Nat.{le-of-suc-le-suc, eq-or-lt-of-le}
 use native.Mathlib.Numerals.{add-one}
 use native.Mathlib.Omega.{arith}
 use mathlib.Core.Path.{_≡_, refl, sym, ap, subst, _∙_}
-use mathlib.Core.Bool.{Bool, true, false}
+use mathlib.Core.Bool.{true, false}
 use mathlib.Core.Logic.{_⊎_, inl, inr}
 use mathlib.Core.List.{List}
-use lib.Count.{ones, ones-le}
+use lib.Count.{ones}
 use lib.ListN.{length, getD, drop, length-drop}
 use lib.Seq.{ext-getD, getD-drop}
 use Rattle.relations.specs.Code.{mostSets}
-use Rattle.relations.specs.declared.Joins.{Joins}
 use Rattle.relations.specs.Trees.{isSubquery, Subquery}
-use Rattle.relations.proofs.Counts.{ones-zero}
 use Rattle.relations.proofs.Connected.{subquery-range}
 use Rattle.relations.proofs.Leads.{never-both}
 use Rattle.query.specs.declared.Query.{Query}
-use Rattle.query.specs.Choice.{pick}
 use Rattle.query.specs.Query.{Valid, relationsOf}
 use Rattle.tables.specs.Tables.{delivered, joinsBelow}
 use Rattle.tables.specs.Work.{cellsNeeded}
+use Rattle.tables.proofs.Trials.{joins-none, joins-next}
 use Rattle.board.specs.Figures.{mark}
 use Rattle.filler.specs.Cells.{place, Stored}
 use Rattle.filler.specs.Filling.{Filled, FilledFrom}
@@ -39,20 +37,6 @@ later-same n old new long same =
     ext-getD 0 (drop n new) (drop n old) (length-drop n new ∙ ap (λ (m : ℕ). m - n) long ∙ sym (length-drop n old))
     (λ i h. getD-drop n new i 0 ∙ same (n + i) (omega arith) ∙ sym (getD-drop n old i 0))
 
--- The joins in the subqueries below m are few.
-pub joins-below : (J : Joins) (n m : ℕ) → m ≤ mostSets → joinsBelow J n m ≤ 8 * m
-unfolding joinsBelow
-joins-below J n zero h = le-refl _
-joins-below J n (suc m) h = go (isSubquery J n m) (joins-below J n m (omega arith))
-  where
-    go : (b : Bool) → joinsBelow J n m ≤ 8 * m → joinsBelow J n m + pick b (ones m - 1) 0 ≤ 8 * suc m
-    go true f = omega (arith, ones-le 9 m h)
-    go false f = omega arith
-
-joins-next : (J : Joins) (n S : ℕ) (b : Bool) → isSubquery J n S ≡ b → joinsBelow J n (S + 1) ≡ joinsBelow J n S + pick b (ones S - 1) 0
-unfolding joinsBelow
-joins-next J n S b e = rw (add-one S, e)
-
 -- Of the sets below S + 1 the last is S.
 below-next : (P : ℕ → Type 0) (S : ℕ) → P S → ((T : ℕ) → T < S → P T) → (T : ℕ) → T < S + 1 → P T
 below-next P S here below T h = go (eq-or-lt-of-le (le-of-suc-le-suc (rw (add-one S) at h)))
@@ -64,18 +48,13 @@ below-next P S here below T h = go (eq-or-lt-of-le (le-of-suc-le-suc (rw (add-on
 module _ (combine : ℕ → ℕ → ℕ) (q : Query) (v : Valid q) where
   -- Nothing is below set 1.
   pub going-start : (work : List ℕ) → cellsNeeded q ≤ length work → Going combine q work work 1 0
-  unfolding joinsBelow
   going-start work room =
       record {
         cells = record { room = room; each = λ S t h s m. absurd (omega (arith, subquery-range (q .joins) (relationsOf q) S s .0)) };
         long = refl;
         later = refl;
-        joins = go (isSubquery (q .joins) (relationsOf q) 0);
+        joins = joins-none (q .joins) (relationsOf q);
       }
-    where
-      go : (b : Bool) → 0 ≡ 0 + pick b (ones 0 - 1) 0
-      go true = omega (arith, ones-zero)
-      go false = refl
 
   module _ (old work : List ℕ) (S tried : ℕ) (g : Going combine q old work S tried) where
     -- A set that is no subquery.

@@ -21,6 +21,7 @@ use Rattle.tables.specs.Written.{written}
 use Rattle.tables.specs.Work.{cellsNeeded}
 use Rattle.tables.specs.Theorems.{mostCost}
 use Rattle.tables.proofs.Most.{delivered-most}
+use Rattle.tables.proofs.Trials.{joins-below}
 use Rattle.solver.specs.declared.Solution.{Solution}
 use Rattle.solver.specs.declared.Solution.the-variants.{Found, NoRoute}
 use Rattle.board.specs.Figures.{noneMark, mark}
@@ -31,7 +32,6 @@ use Rattle.filler.specs.Filling.{LaidOut, Filled, Fillable, FilledFrom}
 use Rattle.solver.specs.Solution.{solutionOf, planAfter}
 use Rattle.board.proofs.LaidBoard.{tree-here, drawn-here}
 use Rattle.filler.proofs.Places.{set-low, place-low}
-use Rattle.filler.proofs.SetsFilled.{joins-below}
 
 -- A cost from its figure.
 marked-number : (c : Cost) (x : ℕ) → x ≡ mark c → x < noneMark → c ≡ some x

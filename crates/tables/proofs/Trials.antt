@@ -1,0 +1,36 @@
+-- The joins in the subqueries below a set, which the trials count: none below set 1, as the empty set has no relation; each set adds its relations less
+-- one where it is a subquery; and they are few, since a set below 512 has at most nine relations.
+use Prim.Native.Nat.{ℕ, zero, suc, _+_, _-_, _*_, _≤_}
+use native.Mathlib.Nat.{le-refl}
+use native.Mathlib.Numerals.{add-one}
+use native.Mathlib.Omega.{arith}
+use mathlib.Core.Path.{_≡_, refl}
+use mathlib.Core.Bool.{Bool, true, false}
+use lib.Count.{ones, ones-le}
+use Rattle.relations.specs.Code.{mostSets}
+use Rattle.relations.specs.declared.Joins.{Joins}
+use Rattle.relations.specs.Trees.{isSubquery}
+use Rattle.relations.proofs.Counts.{ones-zero}
+use Rattle.query.specs.Choice.{pick}
+use Rattle.tables.specs.Tables.{joinsBelow}
+
+pub joins-none : (J : Joins) (n : ℕ) → 0 ≡ joinsBelow J n 1
+unfolding joinsBelow
+joins-none J n = go (isSubquery J n 0)
+  where
+    go : (b : Bool) → 0 ≡ 0 + pick b (ones 0 - 1) 0
+    go true = omega (arith, ones-zero)
+    go false = refl
+
+pub joins-next : (J : Joins) (n S : ℕ) (b : Bool) → isSubquery J n S ≡ b → joinsBelow J n (S + 1) ≡ joinsBelow J n S + pick b (ones S - 1) 0
+unfolding joinsBelow
+joins-next J n S b e = rw (add-one S, e)
+
+pub joins-below : (J : Joins) (n m : ℕ) → m ≤ mostSets → joinsBelow J n m ≤ 8 * m
+unfolding joinsBelow
+joins-below J n zero h = le-refl _
+joins-below J n (suc m) h = go (isSubquery J n m) (joins-below J n m (omega arith))
+  where
+    go : (b : Bool) → joinsBelow J n m ≤ 8 * m → joinsBelow J n m + pick b (ones m - 1) 0 ≤ 8 * suc m
+    go true f = omega (arith, ones-le 9 m h)
+    go false f = omega arith
