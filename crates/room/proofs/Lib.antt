@@ -1,1 +1,4 @@
+pub mod Counted
+pub mod Told
+pub mod Vectors
 pub mod Heaviest

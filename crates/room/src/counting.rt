@@ -19,10 +19,9 @@ fn count_joins(joins: Joins, table: &[u32; SETS]) -> u64
     requires { ⌜ Tabled joins (now table) ⌝ }
     ensures { λ r. ⌜ r ≡ joinsBelow joins (joins .count + 1) (2 ^ (joins .count + 1)) × (r ≤ 4096) ⌝ }
 {
-    let end = single(joins.count + 1);
     let mut tried = 0;
     let mut set = 1;
-    while set < end {
+    while set < single(joins.count + 1) {
         if is_connected(table[set]) {
             tried = tried + (usize::count_ones(set) as u64 - 1);
             set += 1;
