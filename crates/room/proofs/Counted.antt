@@ -18,6 +18,7 @@ use Rattle.relations.proofs.Turns.{few-sets}
 use Rattle.relations.proofs.SubqueriesMost.{subqueries-most}
 use Rattle.tables.specs.Tables.{joinsBelow}
 use Rattle.tables.proofs.Trials.{joins-next, joins-below}
+use Rattle.room.specs.Room.{figures, figuresOf}
 
 -- A turn at set S, where the joins in the subqueries below S are counted.
 module _ (J : Joins) (l : List ℕ) (S tried e : ℕ) (t : Tabled J l) (so : tried ≡ joinsBelow J (J .count + 1) S) (below : S < e) (end : e ≡ 2 ^ (J .count + 1)) where
@@ -45,7 +46,12 @@ all-counted J l S tried e t so h k end =
     (so ∙ ap (joinsBelow J (J .count + 1)) last, omega (arith, joins-below J (J .count + 1) S (omega arith)))
 
 -- The subqueries are few too.
+pub power-few : (m : ℕ) → m ≤ 8 → 2 ^ m ≤ 256
+power-few m h = pow-mono {j = 8} h
+
 pub subqueries-few : (J : Joins) (k : ℕ) → (J .count ≤ 8) × Tree J (J .count + 1) → k ≡ subqueries J (J .count + 1) → k ≤ 4096
-subqueries-few J k h e =
-    let most : 2 ^ J .count ≤ 2 ^ 8 = pow-mono {j = 8} (h .0) in
-    omega (arith, subqueries-most J (J .count + 1) (h .1))
+subqueries-few J k h e = omega (arith, power-few (J .count) (h .0), subqueries-most J (J .count + 1) (h .1))
+
+-- So these are the figures of the tree at s sites.
+pub told : (J : Joins) (s k j : ℕ) → k ≡ subqueries J (J .count + 1) → j ≡ joinsBelow J (J .count + 1) (2 ^ (J .count + 1)) → figures k (k * s) (s * j) ≡ figuresOf (J .count + 1) s J
+told J s k j e f = rw (e, f)

@@ -2,7 +2,7 @@
 use native.Mathlib.Omega.{arith}
 use borrow.Author.Needs.{needs}
 use Rattle.sizing.proofs.Products.{product-word}
-use Rattle.room.proofs.Counted.{subqueries-few}
+use Rattle.room.proofs.Counted.{subqueries-few, told}
 use Rattle.room.proofs.counting.figures.Statement.{statement}
 use Rattle.room.proofs.counting.figures.Tie as tie
 
@@ -15,4 +15,4 @@ figures-spec =
     (λ c. product-word _ _ (omega (arith, subqueries-few _ _ (search needs) (c .count-subqueries .ensures))) (omega arith))
     (λ c κs. search needs)
     (λ c. product-word _ _ (omega arith) (omega arith))
-    (λ c. cc))
+    (λ c. told _ (c .before .before .before .before .before .args .s) _ _ (c .before .before .count-subqueries .ensures) (c .count-joins .ensures .0)))
