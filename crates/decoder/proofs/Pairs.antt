@@ -1,9 +1,9 @@
 -- The pairs of Joins, told apart from their count: where the count is as due, the items that follow it are the section, and the section ends one byte
 -- after them.
-use Prim.Native.Nat.{ℕ, _+_, _-_, _≤_}
+use Prim.Native.Nat.{ℕ, _+_, _-_}
 use native.Mathlib.Nat.{add-comm}
 use native.Mathlib.Omega.{arith}
-use mathlib.Core.Path.{_≡_, refl, sym, ap, _∙_}
+use mathlib.Core.Path.{_≡_, refl, sym, _∙_}
 use mathlib.Core.List.{List, _∷_}
 use lib.ListN.{drop}
 use lib.Seq.{drop-drop}

@@ -1,5 +1,5 @@
 -- `read_pairs` reads the joins behind their count: the loop has the answer of the items from join i on.
-use Prim.Native.Nat.{_+_, _-_, _*_, _≤_}
+use Prim.Native.Nat.{_-_, _*_, _≤_}
 use mathlib.Core.Path.{_≡_}
 use mathlib.Core.List.{_∷_}
 use lib.ListN.{drop}
