@@ -18,12 +18,12 @@ use Rattle.planner.specs.declared.Planner.{Planner}
 use Rattle.planner.specs.declared.SolveAnswer.{SolveAnswer}
 use Rattle.planner.specs.Solve.{Answer, found, noRoute, refused, solveAdmitted}
 use Rattle.planner.specs.Contracts.{ofSolve}
+use Rattle.room.proofs.room.Reads as Room
 use Rattle.planner.proofs.load.Reads as Load
 use Rattle.planner.proofs.load_rows.Reads as Load-rows
 use Rattle.planner.proofs.link.Reads as Link
 use Rattle.planner.proofs.solve.Reads as Solve
 use Rattle.planner.proofs.check.Reads as Check
-use Rattle.room.proofs.room.Reads as Room
 use Rattle.claim.specs.Lists.{Call, inForce, Runs}
 
 -- Nobody can write a plan for the query.

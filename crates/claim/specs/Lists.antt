@@ -12,20 +12,20 @@ use Rattle.decoder.specs.Fields.{Read, value}
 use Rattle.decoder.specs.Fields as fields
 use Rattle.decoder.specs.Decode.{decode}
 use Rattle.decoder.specs.declared.Form.the-variants as form
+use Rattle.room.specs.declared.RoomAnswer.{RoomAnswer}
 use Rattle.planner.specs.declared.Planner.{Planner}
 use Rattle.planner.specs.declared.AfterLoad.{AfterLoad}
 use Rattle.planner.specs.declared.AfterLink.{AfterLink}
 use Rattle.planner.specs.declared.SolveAnswer.{SolveAnswer}
 use Rattle.planner.specs.declared.CheckAnswer.{CheckAnswer}
 use Rattle.planner.specs.Link.{Link, linkOf, sitesListed, termsInRange, relinedBy}
+use Rattle.room.proofs.room.Reads as Room
 use Rattle.planner.proofs.empty.Reads as Empty
 use Rattle.planner.proofs.load.Reads as Load
 use Rattle.planner.proofs.load_rows.Reads as Load-rows
 use Rattle.planner.proofs.link.Reads as Link-reads
 use Rattle.planner.proofs.solve.Reads as Solve
 use Rattle.planner.proofs.check.Reads as Check
-use Rattle.room.specs.declared.RoomAnswer.{RoomAnswer}
-use Rattle.room.proofs.room.Reads as Room
 
 -- A call with its own arguments, input bytes and lent areas, with anything in them.
 pub data Call : Type 0 where

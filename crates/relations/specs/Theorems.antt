@@ -73,6 +73,6 @@ pub record Subqueries (J : Joins) (n : ℕ) : Type 0 where
 abbrev pub SubqueriesLaw : Type 0
 SubqueriesLaw = (J : Joins) (n : ℕ) → Tree J n → Subqueries J n
 
--- A tree of m joins has at most 2^m + m subqueries. The same of its trials, and that a star has so many, is stated above the tables, by n: `Heaviest`.
+-- A tree of m joins has at most 2^m + m subqueries. `Heaviest` of `room` states it by n, with the trials, and that a star reaches both.
 abbrev pub SubqueriesMost : Type 0
 SubqueriesMost = (J : Joins) (n : ℕ) → Tree J n → subqueries J n ≤ 2 ^ J .count + J .count
