@@ -1,7 +1,7 @@
 -- The heaviest queries. The trials are s times what the subqueries weigh where each weighs its joins. The sets of m + 1 joins have (m + 1) 2^m joins
 -- together: half of them have any one join.
 use Prim.Native.Nat.{ℕ, zero, suc, _+_, _-_, _*_, _/_, _^_, _≤_}
-use mathlib.Core.Path.{_≡_, refl, sym, ap, _∙_}
+use mathlib.Core.Path.{_≡_, refl, ap, _∙_}
 use mathlib.Core.Bool.{Bool, true, false}
 use native.Mathlib.Nat.{pow-succ', suc-mul, mul-left-comm, mul-assoc, mul-le-mul-left}
 use native.Mathlib.Omega.{arith}
@@ -80,8 +80,8 @@ module _ (n : ℕ) (two : 2 ≤ n) (J : Joins) where
 pub heaviest-law : HeaviestLaw
 heaviest-law n two = record {
   subqueries-most = λ J t. omega (arith, subqueries-most J n t, all-sets n two J (t .joins));
-  trials-most = λ J t s. rw (mul-assoc s (n - 1) (2 ^ (n - 2))) (mul-le-mul-left s (joins-most n two J t));
+  trials-most = λ J t s. omega (arith, mul-le-mul-left s (joins-most n two J t), mul-assoc s (n - 1) (2 ^ (n - 2)));
   star-subqueries = λ J s. star-subqueries J n s (omega (arith, s .tree .joins)) ∙ all-sets n two J (s .tree .joins);
-  star-trials = λ J star s. ap (λ (x : ℕ). s * x) (star-joins n two J star) ∙ sym (mul-assoc s (n - 1) (2 ^ (n - 2)));
+  star-trials = λ J star s. omega (arith, ap (λ (x : ℕ). s * x) (star-joins n two J star), mul-assoc s (n - 1) (2 ^ (n - 2)));
   some-star = star-of n (omega arith);
 }
