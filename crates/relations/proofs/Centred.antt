@@ -1,56 +1,36 @@
 -- In a star every set of joins is that of a subquery: the middle with the ends of the joins. It has at most one relation more than these are, and in a
 -- tree every set has fewer joins than relations, so these are all its joins, and it is connected.
-use Prim.Native.Nat.{ℕ, zero, suc, _+_, _/_, _^_, _≤_, _<_}
+use Prim.Native.Nat.{ℕ, zero, suc, _+_, _^_, _≤_, _<_}
 use mathlib.Core.Path.{_≡_, refl, ap, _∙_, sym}
 use mathlib.Core.Bool.{Bool, true, false}
 use mathlib.Core.Logic.{_⊎_, inl, inr, ⊎-elim}
-use native.Mathlib.Nat.{pow-suc, eq-or-lt-of-le, le-of-suc-le-suc}
+use native.Mathlib.Nat.{eq-or-lt-of-le, le-of-suc-le-suc}
 use native.Mathlib.Decide.{decLt}
 use native.Mathlib.Omega.{arith}
 use borrow.Author.Tests.{eqb-true, eqb-false}
-use lib.Count.{ones, ones-step}
+use lib.Count.{ones}
 use lib.Dec.{eqb}
 use lib.Pow.{pow-pos}
 use Rattle.relations.specs.declared.Joins.{Joins}
-use Rattle.relations.specs.Sets.{bit, put, Sub, all}
+use Rattle.relations.specs.Sets.{bit, Sub, all}
 use Rattle.relations.specs.Growth.{first, second, along}
 use Rattle.relations.specs.Trees.{Subquery, joinsIn}
 use Rattle.relations.specs.Stars.{Star}
 use Rattle.relations.specs.Code.{orNone}
 use Rattle.relations.specs.Table.{joinBits}
-use Rattle.relations.proofs.Bits.{bit-le, bit-zero, bit-suc, bit-pow, bit-high, bit-all, le-of-sub, sub-single, below-of-sub, all-below, put-old}
-use Rattle.relations.proofs.Counts.{ones-zero, ones-mono, ones-pow, sub-full}
-use Rattle.relations.proofs.Leads.{along-has, along-within, along-first, along-second, ones-along, ends-inside}
+use Rattle.relations.proofs.Bits.{bit-le, bit-pow, bit-high, bit-all, le-of-sub, sub-single, below-of-sub, all-below}
+use Rattle.relations.proofs.Counts.{ones-sum, ones-mono, ones-pow, sub-full}
+use Rattle.relations.proofs.Leads.{along-has, along-within, along-first, along-second, along-few, ends-inside}
 use Rattle.relations.proofs.JoinCounts.{joins-fewer}
 use Rattle.relations.proofs.SubqueryCount.{subquery-of-count}
 use Rattle.relations.proofs.Entries.{bits-inside}
-use Rattle.relations.proofs.Sums.{sum, sum-front, sum-same}
+use Rattle.relations.proofs.Sums.{sum}
 use Rattle.relations.proofs.Weights.{bits-count}
 
 -- The relation c with both relations of each join below m that is in E.
 unfoldable pub centred : Joins → ℕ → ℕ → ℕ → ℕ
 centred J c E zero = 2 ^ c
 centred J c E (suc m) = elim (eqb (bit E m) 1) [ true ↦ along J (centred J c E m) m | false ↦ centred J c E m ]
-
--- The members of a set are as many as it has ones.
-ones-sum : (m S : ℕ) → S < 2 ^ m → ones S ≡ sum m (bit S)
-unfolding sum
-ones-sum zero S h = let none : S ≡ 0 = omega arith in ap ones none ∙ ones-zero
-ones-sum (suc m) S h =
-    omega (arith, ones-step S, ones-sum m (S / 2) (omega (arith, pow-suc 2 m)), sum-front m (bit S), bit-zero S, sum-same m (λ i. bit S (suc i)) (bit (S / 2)) (λ i l. bit-suc S i))
-
--- A join brings at most one relation to a set that has one of its ends.
-along-few : (J : Joins) (A e : ℕ) → 1 ≤ bit A (first J e) + bit A (second J e) → ones (along J A e) ≤ ones A + 1
-along-few J A e h = go (bit A (first J e) + bit A (second J e)) refl
-  where
-    go : (x : ℕ) → bit A (first J e) + bit A (second J e) ≡ x → ones (along J A e) ≤ ones A + 1
-    go zero q = absurd (omega arith)
-    go (suc zero) q = omega (arith, ones-along J A e q)
-    go (suc (suc x)) q =
-        let f : put A (first J e) ≡ A = put-old A (first J e) (omega (arith, bit-le A (first J e), bit-le A (second J e))) in
-        let s : put A (second J e) ≡ A = put-old A (second J e) (omega (arith, bit-le A (first J e), bit-le A (second J e))) in
-        let same : along J A e ≡ A = ap (λ (B : ℕ). put B (second J e)) f ∙ s in
-        omega (arith, ap ones same)
 
 -- T is the subquery whose joins are E.
 pub record OfJoins (J : Joins) (n E T : ℕ) : Type 0 where

@@ -11,6 +11,7 @@ use lib.Pow.{pow-lt, pow-pos}
 use lib.Count.{ones, ones-step, trailingZeros, under}
 use Rattle.relations.specs.Sets.{bit, Sub, Apart, put, lowest}
 use Rattle.relations.proofs.Bits.{bit-zero, bit-suc, half-pow, le-of-sub, sub-apart, sub-whole, sub-single, single-apart, bit-range, put-new, pow-cases}
+use Rattle.relations.proofs.Sums.{sum, sum-front, sum-same}
 
 pub ones-zero : ones 0 ≡ 0
 unfolding ones
@@ -50,6 +51,13 @@ sub-full A B s h = omega (arith, sub-whole A B s, ones-none (B - A) (omega (arit
 pub ones-pow : (k : ℕ) → ones (2 ^ k) ≡ 1
 ones-pow zero = omega (arith, ones-step 1, ones-zero)
 ones-pow (suc k) = ones-step (2 ^ suc k) ∙ omega (arith, pow-suc 2 k, ap ones (half-pow k), ones-pow k)
+
+-- The members of a set are as many as it has ones.
+pub ones-sum : (m S : ℕ) → S < 2 ^ m → ones S ≡ sum m (bit S)
+unfolding sum
+ones-sum zero S h = let none : S ≡ 0 = omega arith in ap ones none ∙ ones-zero
+ones-sum (suc m) S h =
+    omega (arith, ones-step S, ones-sum m (S / 2) (omega (arith, pow-suc 2 m)), sum-front m (bit S), bit-zero S, sum-same m (λ i. bit S (suc i)) (bit (S / 2)) (λ i l. bit-suc S i))
 
 -- One more member.
 pub ones-more : (S k : ℕ) → bit S k ≡ 0 → ones (S + 2 ^ k) ≡ ones S + 1

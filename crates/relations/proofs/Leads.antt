@@ -1,5 +1,5 @@
 -- What the test of a leading join means, and what following such a join adds: one relation, within every set that holds the join's relations.
-use Prim.Native.Nat.{ℕ, zero, suc, _+_, _^_, max}
+use Prim.Native.Nat.{ℕ, zero, suc, _+_, _^_, _≤_, max}
 use mathlib.Core.Path.{_≡_, refl, sym, ap, _∙_}
 use mathlib.Core.Bool.{Bool, true, false, not, _&&_}
 use native.Mathlib.Omega.{arith}
@@ -91,6 +91,19 @@ ones-along J A e h = go (bit A (first J e)) refl
     go (suc b) p =
         ap (λ (X : ℕ). ones (put X (second J e))) (put-old A (first J e) (omega (arith, bit-le A (first J e))))
         ∙ ones-put A (second J e) (omega arith)
+
+-- A join brings at most one relation to a set that has one of its ends.
+pub along-few : (J : Joins) (A e : ℕ) → 1 ≤ bit A (first J e) + bit A (second J e) → ones (along J A e) ≤ ones A + 1
+along-few J A e h = go (bit A (first J e) + bit A (second J e)) refl
+  where
+    go : (x : ℕ) → bit A (first J e) + bit A (second J e) ≡ x → ones (along J A e) ≤ ones A + 1
+    go zero q = absurd (omega arith)
+    go (suc zero) q = omega (arith, ones-along J A e q)
+    go (suc (suc x)) q =
+        let f : put A (first J e) ≡ A = put-old A (first J e) (omega (arith, bit-le A (first J e), bit-le A (second J e))) in
+        let s : put A (second J e) ≡ A = put-old A (second J e) (omega (arith, bit-le A (first J e), bit-le A (second J e))) in
+        let same : along J A e ≡ A = ap (λ (B : ℕ). put B (second J e)) f ∙ s in
+        omega (arith, ap ones same)
 
 pub along-first : (J : Joins) (A e : ℕ) → bit (along J A e) (first J e) ≡ 1
 along-first J A e = omega (arith, bit-along J A e (first J e), bit-pow (first J e), bit-le A (first J e), bit-le (2 ^ second J e) (first J e))
