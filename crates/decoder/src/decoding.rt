@@ -1,11 +1,11 @@
 // The whole query file: its sections in reading order, the tree test after the last join, and nothing after Delivery.
 use crate::Form;
 use crate::fields::part_from;
+use crate::join_section::read_joins;
 use crate::line_section::read_lines;
 use crate::rows::read_by_form;
 use crate::sections::Outcome;
 use crate::sections::read_delivery;
-use crate::sections::read_joins;
 use crate::sections::read_relations;
 use crate::sections::read_sites;
 use query::Lines;

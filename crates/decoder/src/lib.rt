@@ -2,6 +2,7 @@
 mod decoding;
 mod fields;
 mod items;
+mod join_section;
 mod line_section;
 mod rows;
 mod sections;
@@ -11,9 +12,9 @@ pub use decoding::Decoded;
 pub use decoding::decode;
 pub use items::MOST_FIXED;
 pub use items::MOST_RATE;
-pub use sections::JoinsRead;
+pub use join_section::JoinsRead;
+pub use join_section::read_pairs;
 pub use sections::Outcome;
-pub use sections::read_pairs;
 
 // Which sections a file has between Joins and Lines: the sizes of its subqueries, or row counts and divisors from which they are worked out.
 pub enum Form {

@@ -1,4 +1,4 @@
-// The sections Sites, Relations, Joins and Delivery, each read from the part of the file that starts where the last one ended.
+// The sections Sites, Relations and Delivery, each read from the part of the file that starts where the last one ended.
 use crate::fields::Field;
 use crate::fields::byte_below;
 use crate::fields::count_field;
@@ -12,14 +12,11 @@ use crate::items::terms_fault;
 use crate::items::two_fault;
 use query::Relations;
 use query::Sites;
-use query::no_joins;
 use query::no_relations;
 use query::no_sites;
-use relations::Joins;
-ghost use Prim.Native.Nat.{_-_, _*_, _≤_};
+ghost use Prim.Native.Nat.{_≤_};
 ghost use mathlib.Core.Path.{_≡_};
-ghost use mathlib.Core.List.{_∷_};
-ghost use Rattle.decoder.specs.Decode.{sitesSection, relationsSection, joinsSection, deliverySection};
+ghost use Rattle.decoder.specs.Decode.{sitesSection, relationsSection, deliverySection};
 ghost use Rattle.decoder.specs.Code.{readOf};
 
 // How a section's reading ended: with all of it, or with the number of the first refusal.
@@ -45,12 +42,6 @@ pub struct RelationsRead {
     pub outcome: Outcome,
     pub used: usize,
     pub relations: Relations,
-}
-
-pub struct JoinsRead {
-    pub outcome: Outcome,
-    pub used: usize,
-    pub joins: Joins,
 }
 
 pub struct DeliveryRead {
@@ -132,56 +123,6 @@ pub(crate) fn read_relations(part: &[u8], s: usize) -> RelationsRead
         outcome: Outcome::Whole,
         used: at,
         relations,
-    }
-}
-
-// Joins of n relations: their count, then the pairs.
-pub(crate) fn read_joins(part: &[u8], n: usize) -> JoinsRead
-    requires { ⌜ (1 ≤ n) × (n ≤ 9) ⌝ }
-    ensures { λ r. ⌜ readOf (r .outcome) (r .joins) (r .used) (now (part .entry)) ≡ joinsSection n (now (part .entry)) ⌝ }
-{
-    let due = (n - 1) as u64;
-    let c = count_field(part, due, due);
-    let Field::Value(_) = c else {
-        return JoinsRead {
-            outcome: Outcome::Refused(fault(c)),
-            used: 0,
-            joins: no_joins(0),
-        };
-    };
-    let mut read = read_pairs(part_from(part, 1), n);
-    read.used += 1;
-    read
-}
-
-// The pairs of n - 1 joins, as they stand behind a count that is as due: first relation, second relation.
-pub fn read_pairs(part: &[u8], n: usize) -> JoinsRead
-    requires { ⌜ (1 ≤ n) × (n ≤ 9) ⌝ }
-    ensures value { λ r. ⌜ readOf (r .outcome) (r .joins) (r .used) (now (part .entry)) ≡ joinsSection n ((n - 1) ∷ now (part .entry)) ⌝ }
-    ensures small { λ r. ⌜ r .used ≤ 2 * n ⌝ }
-{
-    let count = n - 1;
-    let mut joins = no_joins(count);
-    let mut at = 0;
-    let mut i = 0;
-    while i < count {
-        let t = read_two(part_from(part, at), n, n);
-        let TwoRead::Two { one, other } = t else {
-            return JoinsRead {
-                outcome: Outcome::Refused(two_fault(t)),
-                used: 0,
-                joins,
-            };
-        };
-        joins.first[i] = one;
-        joins.second[i] = other;
-        at += 2;
-        i += 1;
-    }
-    JoinsRead {
-        outcome: Outcome::Whole,
-        used: at,
-        joins,
     }
 }
 

@@ -22,11 +22,11 @@ pub fn room(n: u64, s: u64, pairs: &[u8]) -> RoomAnswer
     if !in_limits(n, s) {
         return RoomAnswer::Refused(2);
     }
-    let count = n as usize;
-    if pairs.len() != 2 * (count - 1) {
+    let relations = n as usize;
+    if pairs.len() != 2 * (relations - 1) {
         return RoomAnswer::Refused(2);
     }
-    let read = read_pairs(pairs, count);
+    let read = read_pairs(pairs, relations);
     let o = read.outcome;
     match o {
         Outcome::Refused(k) => RoomAnswer::Refused(k),

@@ -3,8 +3,8 @@ use borrow.Author.Needs.{needs}
 use Rattle.decoder.specs.Decode.{joinsSection}
 use Rattle.decoder.proofs.SectionLaws.{section-cut}
 use Rattle.decoder.proofs.Pairs.{joins-behind}
-use Rattle.decoder.proofs.sections.read_joins.Statement.{statement}
-use Rattle.decoder.proofs.sections.read_joins.Tie as tie
+use Rattle.decoder.proofs.join_section.read_joins.Statement.{statement}
+use Rattle.decoder.proofs.join_section.read_joins.Tie as tie
 
 pub read-joins-spec : {M : Type 1} → statement M
 unfolding joinsSection

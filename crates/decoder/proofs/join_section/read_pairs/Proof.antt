@@ -8,8 +8,8 @@ use Rattle.decoder.specs.Fields.{items, storing}
 use Rattle.decoder.specs.Decode.{two, withJoin, joinsSection}
 use Rattle.decoder.proofs.SectionLaws.{two-stored, of-section}
 use Rattle.decoder.proofs.Pairs.{pairs-start}
-use Rattle.decoder.proofs.sections.read_pairs.Statement.{statement}
-use Rattle.decoder.proofs.sections.read_pairs.Tie as tie
+use Rattle.decoder.proofs.join_section.read_pairs.Statement.{statement}
+use Rattle.decoder.proofs.join_section.read_pairs.Tie as tie
 
 abbrev Inv-loop : tie.InvT-loop
 Inv-loop part n count joins₀ at₀ i₀ joins at i =
