@@ -44,6 +44,10 @@ pub or-none-le : (d : Bool) (n : ℕ) → orNone d n ≤ n
 or-none-le true n = omega arith
 or-none-le false n = omega arith
 
+pub or-none-some : (d : Bool) (n : ℕ) → 0 < orNone d n → (d ≡ true) × (0 < n)
+or-none-some true n p = (refl, p)
+or-none-some false n p = absurd (omega arith)
+
 pub joins-most : (J : Joins) (S m : ℕ) → joinsIn J S m ≤ m
 unfolding joinsIn
 joins-most J S zero = omega arith
@@ -78,11 +82,7 @@ bits-inside J S (suc m) e h = go (eq-or-lt-of-le (le-of-suc-le-suc h)) (bits-ins
 
 -- A member of the set is a join that lies in S.
 pub join-of-bit : (J : Joins) (S m e : ℕ) → bit (joinBits J S m) e ≡ 1 → (e < m) × (inside J S e ≡ true)
-join-of-bit J S m e h = elim (decLt e m) [ yes l ↦ (l, some (inside J S e) (sym (bits-inside J S m e l) ∙ h)) | no l ↦ absurd (omega (arith, bits-high J S m e (omega arith))) ]
-  where
-    some : (d : Bool) → orNone d 1 ≡ 1 → d ≡ true
-    some true q = refl
-    some false q = absurd (omega arith)
+join-of-bit J S m e h = elim (decLt e m) [ yes l ↦ (l, or-none-some (inside J S e) 1 (omega (arith, bits-inside J S m e l)) .0) | no l ↦ absurd (omega (arith, bits-high J S m e (omega arith))) ]
 
 -- The three parts of an entry.
 module _ (J : Joins) (S : ℕ) (few : J .count ≤ 8) where

@@ -1,12 +1,12 @@
 -- Subqueries, each weighed by how many joins it has. A subquery of two relations or more goes to the set of its joins, to which no other goes, since a
--- connected set is closed in every set that has its joins. So the subqueries of a tree of m joins weigh no more than the m + 1 single relations and the
+-- set that has its joins is closed within it and holds it whole. So the subqueries of a tree of m joins weigh no more than the m + 1 single relations and the
 -- sets of joins that are not empty.
 use Prim.Native.Nat.{ℕ, zero, suc, _+_, _-_, _^_, _≤_, _<_}
-use mathlib.Core.Path.{_≡_, refl, sym, ap, _∙_}
+use mathlib.Core.Path.{_≡_, sym, ap, _∙_}
 use mathlib.Core.Bool.{Bool, true, false, not}
 use native.Mathlib.Numerals.{add-one}
 use native.Mathlib.Omega.{arith}
-use borrow.Author.Tests.{eqb-true, eqb-false}
+use borrow.Author.Tests.{eqb-true, eqb-false, not-true}
 use lib.Count.{ones}
 use lib.Dec.{eqb}
 use lib.Pow.{pow-pos}
@@ -22,16 +22,12 @@ use Rattle.relations.proofs.Leads.{inside-ends, ends-inside}
 use Rattle.relations.proofs.Connected.{conn-of, subquery-range}
 use Rattle.relations.proofs.JoinCounts.{joins-count}
 use Rattle.relations.proofs.Subqueries.{subqueries-law}
-use Rattle.relations.proofs.Entries.{joins-next, bits-next, or-none-le, bits-below, bits-high, bits-inside, join-of-bit}
+use Rattle.relations.proofs.Entries.{joins-next, bits-next, or-none-le, or-none-some, bits-below, bits-high, bits-inside, join-of-bit}
 use Rattle.relations.proofs.Sums.{sum, sum-add, besides, besides-other, sum-besides, sum-into}
 
 -- What a set weighs where a subquery of k joins weighs w k, and a set that is no subquery nothing.
 unfoldable pub weight : Joins → ℕ → (ℕ → ℕ) → ℕ → ℕ
 weight J n w T = orNone (isSubquery J n T) (w (ones T - 1))
-
-or-none-some : (d : Bool) (x : ℕ) → 0 < orNone d x → (d ≡ true) × (0 < x)
-or-none-some true x p = (refl, p)
-or-none-some false x p = absurd (omega arith)
 
 -- A sum in two, by a test.
 pub sum-tested : (m : ℕ) (test : ℕ → Bool) (f : ℕ → ℕ) → sum m f ≡ sum m (λ i. orNone (test i) (f i)) + sum m (λ i. orNone (not (test i)) (f i))
@@ -106,13 +102,9 @@ module _ (J : Joins) (n : ℕ) (t : Tree J n) where
         is : (T : ℕ) → 0 < orNone (not (eqb (ones T) 1)) (weight J n w T) → Subquery J n T
         is T p = weight-some J n w T (or-none-some (not (eqb (ones T) 1)) (weight J n w T) p .1)
 
-        fails : (d : Bool) → not d ≡ true → d ≡ false
-        fails true e = sym e
-        fails false e = refl
-
         more : (T : ℕ) → 0 < orNone (not (eqb (ones T) 1)) (weight J n w T) → 1 < ones T
         more T p =
-            let not-one : ones T ≡ 1 → ⊥ = eqb-false (ones T) 1 (fails (eqb (ones T) 1) (or-none-some (not (eqb (ones T) 1)) (weight J n w T) p .0)) in
+            let not-one : ones T ≡ 1 → ⊥ = eqb-false (ones T) 1 (not-true (eqb (ones T) 1) (or-none-some (not (eqb (ones T) 1)) (weight J n w T) p .0)) in
             omega (arith, ones-pos T (subquery-range J n T (is T p) .0), not-one)
 
     -- One relation more than joins.
