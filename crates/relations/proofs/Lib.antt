@@ -23,3 +23,4 @@ pub mod Weights
 pub mod Centred
 pub mod Stars
 pub mod SubqueriesMost
+pub mod Below
