@@ -7,6 +7,7 @@ use native.Mathlib.Nat.{zero-add, pow-suc, eq-zero-or-pos, le-of-suc-le-suc, le-
 use native.Mathlib.Decide.{decLt}
 use native.Mathlib.Omega.{arith}
 use lib.Arith.{bin-ind}
+use lib.Bits.{bitAnd, and-step, and-self}
 use lib.Pow.{pow-lt, pow-pos}
 use lib.Count.{ones, ones-step, trailingZeros, under}
 use Rattle.relations.specs.Sets.{bit, Sub, Apart, put, lowest}
@@ -104,6 +105,21 @@ lowest-pow n r l =
 pub single-of-ones : (n S : ℕ) → S < 2 ^ n → ones S ≡ 1 → S ≡ 2 ^ lowest n S
 single-of-ones n S h e =
     sym (sub-full (2 ^ lowest n S) S (sub-single S (lowest n S) (lowest-in n S (one-some S e) h)) (omega (arith, e, ones-pow (lowest n S))))
+
+pub lowest-within : (n S : ℕ) → 0 < S → S < 2 ^ n → 2 ^ lowest n S ≤ S
+lowest-within n S p h = le-of-sub (2 ^ lowest n S) S (sub-single S (lowest n S) (lowest-in n S p h))
+
+-- A number and the one before it share all digits but the lowest that is set: masked by it, a set loses its lowest member.
+pub lowest-off : (n S : ℕ) → 0 < S → S < 2 ^ n → bitAnd S (S - 1) ≡ S - 2 ^ lowest n S
+unfolding trailingZeros
+lowest-off zero S p h = absurd (omega arith)
+lowest-off (suc n) S p h = go (S % 2) refl (λ q. lowest-off n (S / 2) q (omega (arith, pow-suc 2 n)))
+  where
+    go : (d : ℕ) → S % 2 ≡ d → (0 < S / 2 → bitAnd (S / 2) (S / 2 - 1) ≡ S / 2 - 2 ^ lowest n (S / 2)) → bitAnd S (S - 1) ≡ S - 2 ^ under d (lowest n (S / 2))
+    go zero e above =
+        let half : (S - 1) / 2 ≡ S / 2 - 1 = omega arith in
+        omega (arith, and-step S (S - 1), ap (bitAnd (S / 2)) half, above (omega arith), pow-suc 2 (lowest n (S / 2)))
+    go (suc d) e above = let half : (S - 1) / 2 ≡ S / 2 = omega arith in omega (arith, and-step S (S - 1), ap (bitAnd (S / 2)) half, and-self (S / 2))
 
 -- The lowest member of a set below 2 ^ n is the same for every greater limit.
 pub lowest-same : (n m S : ℕ) → 0 < S → S < 2 ^ n → n ≤ m → trailingZeros n S ≡ trailingZeros m S

@@ -5,8 +5,8 @@ use native.Mathlib.Decide.{decLt}
 use mathlib.Core.Path.{_≡_, sym, ap, _∙_}
 use lib.Pow.{pow-pos}
 use Rattle.relations.specs.Sets.{bit, lowest}
-use Rattle.relations.proofs.Bits.{bit-none, bit-sub, bit-pow, bit-pow-other, sub-single, le-of-sub}
-use Rattle.relations.proofs.Counts.{lowest-in, below-lowest}
+use Rattle.relations.proofs.Bits.{bit-none, bit-sub, bit-pow, bit-pow-other, sub-single}
+use Rattle.relations.proofs.Counts.{lowest-in, lowest-within, below-lowest}
 
 -- The members of left are those of whole from at on.
 pub record From (whole left at : ℕ) : Type 0 where
@@ -41,7 +41,7 @@ module _ (whole left at : ℕ) (w : From whole left at) where
     none-between i low h = sym (w .same i low) ∙ below-lowest 64 left i h
 
     pub one-within : (one : ℕ) → one ≡ 2 ^ lowest 64 left → one ≤ left
-    one-within one is = omega (arith, le-of-sub (2 ^ lowest 64 left) left (sub-single left (lowest 64 left) lowest-left))
+    one-within one is = omega (arith, lowest-within 64 left (omega arith) few)
 
     pub one-less : (one : ℕ) → one ≡ 2 ^ lowest 64 left → left - one < left
     one-less one is = omega (arith, pow-pos (lowest 64 left))
