@@ -1,12 +1,12 @@
--- Where the cells stand in the work area: the first row begins at 0, the row of a subquery ends where the next one begins, and the last ends at the need.
+-- Where the cells stand in the work area: the row of a subquery ends where the next one begins, the first begins at 0, and the last ends at the need.
 use Prim.Native.Nat.{ℕ, _+_, _*_, _^_, _≤_, _<_}
 use mathlib.Core.Path.{_≡_, ap}
 use mathlib.Core.Bool.{false}
-use native.Mathlib.Nat.{mul-add, mul-comm, mul-le-mul, mul-le-mul-left}
+use native.Mathlib.Nat.{mul-comm, mul-le-mul, mul-le-mul-left}
 use native.Mathlib.Decide.{decLt}
 use native.Mathlib.Omega.{arith}
 use lib.Pow.{pow-mono}
-use Rattle.relations.specs.Trees.{isSubquery, Subquery, countBelow, subqueries}
+use Rattle.relations.specs.Trees.{isSubquery, Subquery, subqueries}
 use Rattle.relations.proofs.Connected.{subquery-range}
 use Rattle.relations.proofs.SubqueriesMost.{subqueries-most}
 use Rattle.relations.proofs.Below.{count-first, count-next, count-skip, count-mono}
@@ -19,19 +19,17 @@ module _ (q : Query) where
   unfolding place
   place-after S t = omega arith
 
-  pub place-first : place q 1 0 ≡ 0
-  unfolding place
-  place-first = omega (arith, ap (λ (x : ℕ). sitesOf q * x) (count-first (q .joins) (relationsOf q)))
-
   pub place-next : (S : ℕ) → Subquery (q .joins) (relationsOf q) S → place q (S + 1) 0 ≡ place q S 0 + sitesOf q
   unfolding place
-  place-next S s =
-      let c = countBelow (q .joins) (relationsOf q) S in
-      omega (arith, ap (λ (x : ℕ). sitesOf q * x) (count-next (q .joins) (relationsOf q) S s), mul-add (sitesOf q) c 1)
+  place-next S s = omega (arith, ap (λ (x : ℕ). sitesOf q * x) (count-next (q .joins) (relationsOf q) S s))
 
   pub place-skip : (S : ℕ) → isSubquery (q .joins) (relationsOf q) S ≡ false → place q (S + 1) 0 ≡ place q S 0
   unfolding place
   place-skip S s = omega (arith, ap (λ (x : ℕ). sitesOf q * x) (count-skip (q .joins) (relationsOf q) S s))
+
+  pub place-first : place q 1 0 ≡ 0
+  unfolding place
+  place-first = omega (arith, ap (λ (x : ℕ). sitesOf q * x) (count-first (q .joins) (relationsOf q)))
 
   place-mono : (S T : ℕ) → S ≤ T → place q S 0 ≤ place q T 0
   unfolding place
