@@ -5,10 +5,9 @@ use native.Mathlib.Nat.{le-refl}
 use native.Mathlib.Omega.{arith}
 use mathlib.Core.Path.{_≡_, refl, sym, _∙_}
 use mathlib.Core.Bool.{Bool, true, false, _&&_}
-use mathlib.Core.List.{List}
 use lib.Count.{ones, trailingZeros}
 use lib.Dec.{eqb}
-use lib.ListN.{length, getD}
+use lib.ListN.{getD}
 use borrow.Author.Tests.{eqb-true}
 use Rattle.relations.proofs.Counts.{one-some, lowest-below, lowest-same}
 use Rattle.query.specs.declared.Query.{Query}
@@ -19,18 +18,12 @@ use Rattle.query.specs.Prices.{lineCharge, linePrice, carriage, reads, joinPric
 use Rattle.query.specs.Masks.{countedMask}
 use Rattle.query.proofs.Prices.{mask-is, mask-spares, line-most}
 use Rattle.tables.specs.Tables.{only}
-use Rattle.tables.specs.Work.{cellsNeeded}
 use Rattle.board.specs.Figures.{noneMark}
-use Rattle.filler.specs.Cells.{place}
 use Rattle.board.specs.Board.{lane, fixedAt, countedRow, countedAt, fixedOf, countedOf, lineFixedOf, lineRateOf}
 use Rattle.filler.specs.Trials.{Lent, sizeIn, priceIn, Priced, carriageIn, Carriable}
 use Rattle.filler.specs.Filling.{LaidOut}
-use Rattle.filler.proofs.Places.{set-low, place-low}
+use Rattle.filler.proofs.Places.{set-low}
 use Rattle.filler.proofs.Marks.{Shows}
-
--- The cells of a set are in the work area.
-pub place-within : (q : Query) → Valid q → (work : List ℕ) (S t : ℕ) → cellsNeeded q ≤ length work → S < 2 ^ relationsOf q → t < 8 → place S t < length work
-place-within q v work S t room h low = omega (arith, place-low q S t (set-low q v S h) low)
 
 -- The lowest relation of a set of one is the query's.
 pub only-is : (q : Query) → Valid q → (S : ℕ) → S < 2 ^ relationsOf q → ones S ≡ 1 → trailingZeros 64 S ≡ only q S

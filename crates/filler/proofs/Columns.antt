@@ -28,12 +28,12 @@ use Rattle.tables.specs.Theorems.{mostCost}
 use Rattle.tables.proofs.Most.{joined-most}
 use Rattle.board.specs.Figures.{noneMark, mark, leastOf, placeOf}
 use Rattle.board.specs.Board.{sideAt, homesAt}
-use Rattle.filler.specs.Trials.{Lent, sizeIn, carriageIn, Carriable, joinedIn, bareAt, startIn, siteTrial, deliveredIn}
-use Rattle.filler.specs.Filling.{LaidOut, Filled, Startable}
+use Rattle.filler.specs.Trials.{Lent, sizeIn, carriageIn, Carriable, Startable, joinedIn, bareAt, startIn, siteTrial, deliveredIn}
+use Rattle.filler.specs.Filling.{LaidOut, Filled}
 use Rattle.filler.proofs.Marks.{UpToOr, Shows, Kept, up-to-is, shows-mark, shows-both, kept-all}
 use Rattle.filler.proofs.Started.{startCost, delivered-started, one-of-none, none-is-one}
 use Rattle.filler.proofs.Places.{set-low}
-use Rattle.filler.proofs.Boards.{place-within, only-is, carriage-shows, lines-carriable}
+use Rattle.filler.proofs.Boards.{only-is, carriage-shows, lines-carriable}
 use Rattle.filler.proofs.Parts.{part-of, joinable}
 use Rattle.filler.proofs.JoinTrials.{joined-is}
 
@@ -58,7 +58,7 @@ module _ (combine : ℕ → ℕ → ℕ) (C : Combines combine) (q : Query) (l :
   carriable = lines-carriable q l laid S
 
   -- From a row of what S has cost where it can start: Delivered at every site, and the best site.
-  module _ (row : ℕ → ℕ) (is : (k : ℕ) → k < 8 → row k ≡ mark (startCost combine q S k)) where
+  module _ (row : ℕ → ℕ) (is : (k : ℕ) → k < sitesOf q → row k ≡ mark (startCost combine q S k)) where
     start-up-to : (k : ℕ) → UpToOr mostCost (startCost combine q S k)
     unfolding startCost
     start-up-to k = go (eqb (ones S) 1) (eqb k (home q (only q S)))
@@ -71,7 +71,7 @@ module _ (combine : ℕ → ℕ → ℕ) (C : Combines combine) (q : Query) (l :
     site-shows : (t k : ℕ) → t < 8 → k < sitesOf q → Shows (mostCost + dearestLine) (siteTrial row (l .board) (sizeIn l S) t k) (bySite (startCost combine q S) q S t k)
     unfolding siteTrial
     site-shows t k low h =
-        rw (is k (omega (arith, laid .valid .sites-most)))
+        rw (is k h)
         (shows-both _+_ plus-combines mostCost dearestLine (mark (startCost combine q S k)) (carriageIn (l .board) (sizeIn l S) k t) (startCost combine q S k) (carriage q S k t)
         (shows-mark mostCost (startCost combine q S k) (start-up-to k)) (carriage-shows q l laid S k t h low))
 
@@ -82,7 +82,7 @@ module _ (combine : ℕ → ℕ → ℕ) (C : Combines combine) (q : Query) (l :
         kept-all (mostCost + dearestLine) (omega arith) (bySite (startCost combine q S) q S t) (siteTrial row (l .board) (sizeIn l S) t) (sitesOf q)
         (λ k h. site-shows t k low h)
 
-  module _ (filled : Filled combine q (l .work) S) where
+  module _ (filled : Filled combine q (l .places) (l .work) S) where
     -- What filling the cells of S asks, and the cells that it gives.
     pub startable : Startable l (joinBits (q .joins) S (q .joins .count)) S
     startable =
@@ -91,10 +91,9 @@ module _ (combine : ℕ → ℕ → ℕ) (C : Combines combine) (q : Query) (l :
           alone = one-of-none (q .joins) (relationsOf q) (laid .valid .tree) S s;
           joinable = joinable combine C q l laid S s filled;
           carriable = carriable;
-          roomy = λ t low. place-within q (laid .valid) (l .work) S t (filled .room) low-set low;
         }
 
-    start-is : (k : ℕ) → k < 8 → startIn combine l (joinBits (q .joins) S (q .joins .count)) S k ≡ mark (startCost combine q S k)
+    pub start-is : (k : ℕ) → k < sitesOf q → startIn combine l (joinBits (q .joins) S (q .joins .count)) S k ≡ mark (startCost combine q S k)
     unfolding startIn startCost bareAt
     start-is k site = rw (none-is-one (q .joins) (relationsOf q) (laid .valid .tree) S s) (go (eqb (ones S) 1) refl)
       where

@@ -16,7 +16,7 @@ use Rattle.relations.proofs.Entries.{bits-inside, join-of-bit}
 use Rattle.query.specs.declared.Query.{Query}
 use Rattle.query.specs.Choice.{pick}
 use Rattle.query.specs.Cost.{Cost, none, some, both, plus}
-use Rattle.query.specs.Query.{relationsOf, mayJoin}
+use Rattle.query.specs.Query.{relationsOf, sitesOf, mayJoin}
 use Rattle.query.specs.Prices.{joinPrice, dearestJoin, indexed}
 use Rattle.query.proofs.Prices.{join-most}
 use Rattle.rules.specs.Combine.{Combines}
@@ -36,7 +36,7 @@ abbrev mostTrial : ℕ
 mostTrial = mostCost + mostCost + dearestJoin
 
 module _ (combine : ℕ → ℕ → ℕ) (C : Combines combine) (q : Query) (l : Lent) (laid : LaidOut q l) (S : ℕ) (s : Subquery (q .joins) (relationsOf q) S)
-    (filled : Filled combine q (l .work) S) where
+    (filled : Filled combine q (l .places) (l .work) S) where
   abbrev joins : ℕ
   joins = joinBits (q .joins) S (q .joins .count)
 
@@ -55,14 +55,14 @@ module _ (combine : ℕ → ℕ → ℕ) (C : Combines combine) (q : Query) (l :
   unfolding trialOf
   trial-shows P R k p may =
       let price : ℕ = joinPrice q k (indexed q P k) P (indexed q R k) R in
-      rw (price-is q l laid P R k (p .first-low) (p .second-low) (p .site-in) may, p .first-cell, p .second-cell)
+      rw (price-is q l laid P R k (p .first-low) (p .second-low) (omega (arith, p .site-in, laid .valid .sites-most)) may, p .first-cell, p .second-cell)
       (shows-both _+_ plus-combines (mostCost + mostCost) dearestJoin (combine (mark (D P k)) (mark (D R k))) price (both combine (D P k) (D R k)) (some price)
       (shows-both combine C mostCost mostCost (mark (D P k)) (mark (D R k)) (D P k) (D R k) (cell-shows P k (p .first-part)) (cell-shows R k (p .second-part)))
       (refl, join-most q (laid .valid) k (indexed q P k) P (indexed q R k) R))
 
   trial-none : (P R k : ℕ) → PartsHere P R k → mayJoin q k ≡ false → noneMark ≤ trialOf combine l P R k
   unfolding trialOf
-  trial-none P R k p may = omega (arith, price-none q l laid P R k (p .first-low) (p .second-low) (p .site-in) may)
+  trial-none P R k p may = omega (arith, price-none q l laid P R k (p .first-low) (p .second-low) (omega (arith, p .site-in, laid .valid .sites-most)) may)
 
   -- A join's bit says whether it lies in S.
   bit-says : (e : ℕ) → e < q .joins .count → eqb (bit joins e) 1 ≡ inside (q .joins) S e
@@ -84,7 +84,7 @@ module _ (combine : ℕ → ℕ → ℕ) (C : Combines combine) (q : Query) (l :
           rw (part-of q l laid S s e (found .0) (found .1)) (here (found .0) (found .1))
       go false other = out (λ h. sym (bit-says e h) ∙ other)
 
-  join-shows : (k e : ℕ) → k < 8 → mayJoin q k ≡ true → e < q .joins .count → Shows mostTrial (joinTrial combine l joins S k e) (byJoin combine D q S k e)
+  join-shows : (k e : ℕ) → k < sitesOf q → mayJoin q k ≡ true → e < q .joins .count → Shows mostTrial (joinTrial combine l joins S k e) (byJoin combine D q S k e)
   unfolding byJoin
   join-shows k e site may h =
       join-case (λ x. Shows mostTrial x (byJoin combine D q S k e)) k e
@@ -92,7 +92,7 @@ module _ (combine : ℕ → ℕ → ℕ) (C : Combines combine) (q : Query) (l :
       (λ outside. rw (outside h) (le-refl _))
 
   -- The least over the joins at a site that may join, and the lowest join of it. The loops try eight: the further ones are none.
-  pub joins-kept : (k : ℕ) → k < 8 → mayJoin q k ≡ true →
+  pub joins-kept : (k : ℕ) → k < sitesOf q → mayJoin q k ≡ true →
       Kept mostTrial (best (byJoin combine D q S k) (q .joins .count)) (leastOf (joinTrial combine l joins S k) 8) (placeOf (joinTrial combine l joins S k) 8)
   joins-kept k site may =
       kept-rest mostTrial (omega arith) (best (byJoin combine D q S k) (q .joins .count)) (joinTrial combine l joins S k) (q .joins .count) 8
@@ -101,7 +101,7 @@ module _ (combine : ℕ → ℕ → ℕ) (C : Combines combine) (q : Query) (l :
       (kept-all mostTrial (omega arith) (byJoin combine D q S k) (joinTrial combine l joins S k) (q .joins .count) (λ e h. join-shows k e site may h))
 
   -- The row of the joins is Joined's.
-  pub joined-is : (k : ℕ) → k < 8 → joinedIn combine l joins S k ≡ mark (joined combine q S k)
+  pub joined-is : (k : ℕ) → k < sitesOf q → joinedIn combine l joins S k ≡ mark (joined combine q S k)
   unfolding joined joinedBy
   joined-is k site = go (mayJoin q k) refl
     where

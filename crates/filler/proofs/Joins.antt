@@ -8,10 +8,12 @@ use lib.ListN.{replicate}
 use borrow.Author.Tests.{eq-eqb, ne-eqb}
 use Rattle.relations.specs.Sets.{bit, lowest}
 use Rattle.relations.proofs.Bits.{bit-range}
-use Rattle.relations.proofs.Walks.{From, from-first, none-from, lowest-left, lowest-past, lowest-whole, none-between, one-within, one-less, from-next}
-use Rattle.board.specs.Figures.{noneMark, leastOf, Lanes, Marked, Tried}
-use Rattle.board.specs.Board.{sideAt}
-use Rattle.filler.specs.Trials.{Lent, trialOf, Triable, partBy, joinTrial, Joinable, joinedIn}
+use Rattle.relations.proofs.Counts.{lowest-off}
+use Rattle.relations.proofs.Walks.{From, from-first, none-from, lowest-left, lowest-past, lowest-whole, none-between, one-less, from-next}
+use Rattle.board.specs.Figures.{noneMark, leastOf, Marked}
+use Rattle.board.specs.Board.{sideAt, sitesAt}
+use Rattle.filler.specs.Cells.{paired}
+use Rattle.filler.specs.Trials.{Lent, trialOf, Triable, partBy, AtSites, TriedAt, joinTrial, Joinable, joinedIn}
 use Rattle.filler.proofs.Turns.{none-marked, least-none, least-more, least-past}
 
 -- Its figure where a join is among the bits, and where it is not.
@@ -30,27 +32,27 @@ pub record JoinedTo (combine : ℕ → ℕ → ℕ) (l : Lent) (joins S : ℕ) (
   pub at-most : at ≤ 8
   pub from : From joins left at
   pub few : left < 256
-  pub lanes : Lanes row (λ (k : ℕ). leastOf (joinTrial combine l joins S k) at)
+  pub lanes : AtSites (sitesAt (l .board)) row (λ (k : ℕ). leastOf (joinTrial combine l joins S k) at)
   pub marked : Marked row
 
 module _ (combine : ℕ → ℕ → ℕ) (l : Lent) (joins S : ℕ) where
   -- At first every join is left.
-  pub joined-none : (left : ℕ) → left ≡ joins → joins < 256 → JoinedTo combine l joins S (replicate 8 noneMark) left
-  joined-none left every few =
+  pub joined-none : (left : ℕ) → left ≡ joins → Joinable l joins S → JoinedTo combine l joins S (replicate 8 noneMark) left
+  joined-none left every asks =
       record {
         at = 0;
         at-most = zero-le;
         from = from-first joins left every;
-        few = omega arith;
-        lanes = least-none (joinTrial combine l joins S) _ 0 refl refl;
+        few = omega (arith, asks .few);
+        lanes = least-none (joinTrial combine l joins S) (sitesAt (l .board)) _ 0 (asks .few-sites) refl refl;
         marked = none-marked;
       }
 
   module _ (row : List ℕ) (left : ℕ) (j : JoinedTo combine l joins S row left) where
     -- Where no bit is left, every join was tried.
-    pub joined-done : left ≡ 0 → Lanes row (joinedIn combine l joins S) × Marked row
+    pub joined-done : left ≡ 0 → AtSites (sitesAt (l .board)) row (joinedIn combine l joins S) × Marked row
     joined-done none = (
-      least-past (joinTrial combine l joins S) (j .at) 8 row (j .lanes) (j .at-most)
+      least-past (joinTrial combine l joins S) (sitesAt (l .board)) (j .at) 8 row (j .lanes) (j .at-most)
           (λ k i low h. trial-out combine l joins S k i (none-from joins left (j .at) (j .from) none i low)),
       j .marked,
     )
@@ -69,30 +71,32 @@ module _ (combine : ℕ → ℕ → ℕ) (l : Lent) (joins S : ℕ) where
       next-joins : bit joins (lowest 64 left) ≡ 1
       next-joins = lowest-whole joins left (j .at) (j .from) some fits
 
-      pub next-within : (one : ℕ) → one ≡ 2 ^ lowest 64 left → one ≤ left
-      next-within = one-within joins left (j .at) (j .from) some fits
+      -- What is left behind it.
+      next-off : (rest : ℕ) → rest ≡ bitAnd left (left - 1) → rest ≡ left - 2 ^ lowest 64 left
+      next-off rest e = e ∙ lowest-off 64 left (omega arith) fits
 
-      pub next-less : (one : ℕ) → one ≡ 2 ^ lowest 64 left → left - one < left
-      next-less = one-less joins left (j .at) (j .from) some fits
+      pub next-less : (rest : ℕ) → rest ≡ bitAnd left (left - 1) → rest < left
+      next-less rest e = omega (arith, next-off rest e, one-less joins left (j .at) (j .from) some fits (2 ^ lowest 64 left) refl)
 
       -- What trying its join asks, and the row with the trials of it.
-      pub next-asks : Joinable l joins S → (side : ℕ) → side ≡ sideAt (l .board) (lowest 64 left) → (k : ℕ) → k < 8 → Triable l (bitAnd S side) (S - bitAnd S side) k
+      pub next-asks : Joinable l joins S → (side : ℕ) → side ≡ sideAt (l .board) (lowest 64 left) → (k : ℕ) → k < paired (sitesAt (l .board)) →
+          Triable l (bitAnd S side) (S - bitAnd S side) k
       next-asks a side is k low =
           subst (λ (x : ℕ). Triable l (bitAnd S x) (S - bitAnd S x) k) (sym is) (a .each (lowest 64 left) k next-low low next-joins)
 
-      next-lanes : Lanes row (λ (k : ℕ). leastOf (joinTrial combine l joins S k) (lowest 64 left))
+      next-lanes : AtSites (sitesAt (l .board)) row (λ (k : ℕ). leastOf (joinTrial combine l joins S k) (lowest 64 left))
       next-lanes =
-          least-past (joinTrial combine l joins S) (j .at) (lowest 64 left) row (j .lanes) next-past
+          least-past (joinTrial combine l joins S) (sitesAt (l .board)) (j .at) (lowest 64 left) row (j .lanes) next-past
           (λ k i low h. trial-out combine l joins S k i (none-between joins left (j .at) (j .from) some fits i low h))
 
-      pub joined-more : (side one : ℕ) (new : List ℕ) → side ≡ sideAt (l .board) (lowest 64 left) → one ≡ 2 ^ lowest 64 left →
-          Tried row new (trialOf combine l (bitAnd S side) (S - bitAnd S side)) × Marked new → JoinedTo combine l joins S new (left - one)
-      joined-more side one new is single (t, m) = record {
+      pub joined-more : (side rest : ℕ) (new : List ℕ) → side ≡ sideAt (l .board) (lowest 64 left) → rest ≡ bitAnd left (left - 1) →
+          TriedAt (sitesAt (l .board)) row new (trialOf combine l (bitAnd S side) (S - bitAnd S side)) × Marked new → JoinedTo combine l joins S new rest
+      joined-more side rest new is off (t, m) = record {
         at = lowest 64 left + 1;
         at-most = omega (arith, next-low);
-        from = from-next joins left (j .at) (j .from) some fits one single;
-        few = omega (arith, j .few);
-        lanes = least-more (joinTrial combine l joins S) _ (lowest 64 left) row new next-lanes t
+        from = subst (λ (x : ℕ). From joins x (lowest 64 left + 1)) (sym (next-off rest off)) (from-next joins left (j .at) (j .from) some fits (2 ^ lowest 64 left) refl);
+        few = omega (arith, j .few, next-less rest off);
+        lanes = least-more (joinTrial combine l joins S) (sitesAt (l .board)) _ (lowest 64 left) row new next-lanes t
             (λ k h. ap (λ (x : ℕ). trialOf combine l (bitAnd S x) (S - bitAnd S x) k) is ∙ trial-in combine l joins S k (lowest 64 left) next-joins);
         marked = m;
       }

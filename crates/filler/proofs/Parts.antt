@@ -3,6 +3,7 @@ use Prim.Native.Nat.{ℕ, _+_, _-_, _^_, _≤_, _<_}
 use native.Mathlib.Omega.{arith}
 use mathlib.Core.Path.{_≡_, sym, ap, subst, _∙_}
 use mathlib.Core.Bool.{true}
+use lib.ListN.{length, getD}
 use lib.Bits.{bitAnd}
 use lib.Pow.{pow-mono}
 use Rattle.relations.specs.Growth.{inside}
@@ -13,17 +14,21 @@ use Rattle.relations.proofs.Connected.{subquery-range}
 use Rattle.relations.proofs.Entries.{bits-below, join-of-bit}
 use Rattle.relations.proofs.Splits.{split, part-by-side, Smaller, split-smaller}
 use Rattle.query.specs.declared.Query.{Query}
-use Rattle.query.specs.Query.{relationsOf}
+use Rattle.query.specs.Query.{relationsOf, sitesOf}
 use Rattle.rules.specs.Combine.{Combines}
 use Rattle.tables.specs.Tables.{firstPart, otherPart, delivered}
 use Rattle.tables.specs.Theorems.{mostCost}
+use Rattle.tables.specs.Work.{place}
 use Rattle.tables.proofs.Most.{delivered-most}
-use Rattle.board.specs.Figures.{mark}
+use Rattle.tables.proofs.Work.{place-after}
+use Rattle.board.specs.Figures.{noneMark, mark}
 use Rattle.board.specs.Board.{sideAt}
+use Rattle.filler.specs.Cells.{placeIn, paired}
 use Rattle.filler.specs.Trials.{Lent, cellIn, Triable, Joinable}
 use Rattle.filler.specs.Filling.{LaidOut, Filled}
-use Rattle.filler.proofs.Marks.{UpToOr, up-to-is, mark-most}
-use Rattle.filler.proofs.Boards.{place-within, priced}
+use Rattle.filler.proofs.Marks.{UpToOr, up-to-is}
+use Rattle.filler.proofs.Places.{paired-eight, reach-within}
+use Rattle.filler.proofs.Boards.{priced}
 
 -- The part that the side of a join gives.
 pub part-of : (q : Query) (l : Lent) → LaidOut q l → (S : ℕ) → Subquery (q .joins) (relationsOf q) S → (e : ℕ) → e < q .joins .count →
@@ -32,13 +37,20 @@ part-of q l laid S s e h within =
     ap (bitAnd S) (laid .board .sides e h) ∙ sym (part-by-side (q .joins) (relationsOf q) (laid .valid .tree) S e s h within)
 
 module _ (combine : ℕ → ℕ → ℕ) (C : Combines combine) (q : Query) (l : Lent) (laid : LaidOut q l) (S : ℕ) (s : Subquery (q .joins) (relationsOf q) S)
-    (filled : Filled combine q (l .work) S) where
+    (filled : Filled combine q (l .places) (l .work) S) where
   pub delivered-up-to : (P k : ℕ) → Subquery (q .joins) (relationsOf q) P → UpToOr mostCost (delivered combine q P k)
   delivered-up-to P k p = up-to-is mostCost (delivered combine q P k) (λ c e. delivered-most combine C q (laid .valid) P k c p e)
 
+  -- The cells of a smaller subquery stand at its places.
+  placed : (P k : ℕ) → Subquery (q .joins) (relationsOf q) P → P < S → placeIn (l .places) P k ≡ place q P k
+  placed P k p less = ap (λ (x : ℕ). x + k) (filled .first P less p) ∙ sym (place-after q P k)
+
+  cell-is : (P k : ℕ) → Subquery (q .joins) (relationsOf q) P → P < S → k < sitesOf q → cellIn l P k ≡ mark (delivered combine q P k)
+  cell-is P k p less site = ap (λ (i : ℕ). getD (l .work) i 0) (placed P k p less) ∙ filled .each P k less p site
+
   -- What is known of the two parts.
   pub record Parts (P R k : ℕ) : Type 0 where
-    pub site-in : k < 8
+    pub site-in : k < sitesOf q
     pub whole : P + R ≡ S
     pub first-part : Subquery (q .joins) (relationsOf q) P
     pub second-part : Subquery (q .joins) (relationsOf q) R
@@ -47,7 +59,7 @@ module _ (combine : ℕ → ℕ → ℕ) (C : Combines combine) (q : Query) (l :
     pub first-cell : cellIn l P k ≡ mark (delivered combine q P k)
     pub second-cell : cellIn l R k ≡ mark (delivered combine q R k)
 
-  pub parts-of : (e k : ℕ) → e < q .joins .count → inside (q .joins) S e ≡ true → k < 8 → Parts (firstPart q S e) (otherPart q S e) k
+  pub parts-of : (e k : ℕ) → e < q .joins .count → inside (q .joins) S e ≡ true → k < sitesOf q → Parts (firstPart q S e) (otherPart q S e) k
   parts-of e k h within site =
       let parts : Split (q .joins) (relationsOf q) S e = split (q .joins) (relationsOf q) (laid .valid .tree) S e s h within in
       let small : Smaller S (firstPart q S e) (otherPart q S e) = split-smaller (q .joins) (relationsOf q) S e parts in
@@ -58,19 +70,31 @@ module _ (combine : ℕ → ℕ → ℕ) (C : Combines combine) (q : Query) (l :
         second-part = parts .second-part;
         first-low = subquery-range (q .joins) (relationsOf q) (firstPart q S e) (parts .first-part) .1;
         second-low = subquery-range (q .joins) (relationsOf q) (otherPart q S e) (parts .second-part) .1;
-        first-cell = filled .each (firstPart q S e) k (small .first-less) (parts .first-part) site;
-        second-cell = filled .each (otherPart q S e) k (small .second-less) (parts .second-part) site;
+        first-cell = cell-is (firstPart q S e) k (parts .first-part) (small .first-less) site;
+        second-cell = cell-is (otherPart q S e) k (parts .second-part) (small .second-less) site;
       }
 
-  triable : (P R k : ℕ) → Parts P R k → Triable l P R k
-  triable P R k p =
+  -- What a trial asks of one of them, as far as pairs reach.
+  module _ (P k : ℕ) (p : Subquery (q .joins) (relationsOf q) P) (less : P < S) (reach : k < paired (sitesOf q)) where
+    cell-place : placeIn (l .places) P k < length (l .work)
+    cell-place = omega (arith, placed P k p less, place-after q P k, reach-within q (laid .valid) P S p s less, filled .room)
+
+    cell-most : cellIn l P k ≤ noneMark
+    cell-most = rw (placed P k p less) (filled .most P k less p reach)
+
+  triable : (e k : ℕ) → e < q .joins .count → inside (q .joins) S e ≡ true → k < paired (sitesOf q) → Triable l (firstPart q S e) (otherPart q S e) k
+  triable e k h within reach =
+      let parts : Split (q .joins) (relationsOf q) S e = split (q .joins) (relationsOf q) (laid .valid .tree) S e s h within in
+      let small : Smaller S (firstPart q S e) (otherPart q S e) = split-smaller (q .joins) (relationsOf q) S e parts in
       let low : S < 2 ^ relationsOf q = subquery-range (q .joins) (relationsOf q) S s .1 in
       record {
-        priced = priced q l laid P R k (p .first-low) (p .second-low) (omega (arith, p .whole)) (p .site-in);
-        first-place = place-within q (laid .valid) (l .work) P k (filled .room) (p .first-low) (p .site-in);
-        second-place = place-within q (laid .valid) (l .work) R k (filled .room) (p .second-low) (p .site-in);
-        first-cell = rw (p .first-cell) (mark-most mostCost (delivered combine q P k) (omega arith) (delivered-up-to P k (p .first-part)));
-        second-cell = rw (p .second-cell) (mark-most mostCost (delivered combine q R k) (omega arith) (delivered-up-to R k (p .second-part)));
+        priced = priced q l laid (firstPart q S e) (otherPart q S e) k (subquery-range (q .joins) (relationsOf q) (firstPart q S e) (parts .first-part) .1)
+            (subquery-range (q .joins) (relationsOf q) (otherPart q S e) (parts .second-part) .1) (omega (arith, parts .whole))
+            (omega (arith, paired-eight (sitesOf q) (laid .valid .sites-most)));
+        first-place = cell-place (firstPart q S e) k (parts .first-part) (small .first-less) reach;
+        second-place = cell-place (otherPart q S e) k (parts .second-part) (small .second-less) reach;
+        first-cell = cell-most (firstPart q S e) k (parts .first-part) (small .first-less) reach;
+        second-cell = cell-most (otherPart q S e) k (parts .second-part) (small .second-less) reach;
       }
 
   -- What the joins of S ask.
@@ -79,7 +103,9 @@ module _ (combine : ℕ → ℕ → ℕ) (C : Combines combine) (q : Query) (l :
       let most : 2 ^ q .joins .count ≤ 2 ^ 8 = pow-mono {j = 8} (omega (arith, laid .valid .tree .joins, laid .valid .relations-most)) in
       record {
         few = omega (arith, bits-below (q .joins) S (q .joins .count));
+        some-site = rw (laid .board .sites) (laid .valid .sites-some);
+        few-sites = rw (laid .board .sites) (laid .valid .sites-most);
         each = λ e k low site one. let found = join-of-bit (q .joins) S (q .joins .count) e one in
             subst (λ (P : ℕ). Triable l P (S - P) k) (sym (part-of q l laid S s e (found .0) (found .1)))
-            (triable (firstPart q S e) (otherPart q S e) k (parts-of e k (found .0) (found .1) site));
+            (triable e k (found .0) (found .1) (rw (laid .board .sites) at site));
       }

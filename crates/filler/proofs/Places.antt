@@ -1,33 +1,48 @@
--- Where cells stand: the cells of a query's sets lie within what a solve needs, and no two of them are one.
-use Prim.Native.Nat.{ℕ, _+_, _*_, _^_, _<_}
+-- Where cells stand: how far pairs reach over the sites, and that they stay within what a solve needs.
+use Prim.Native.Nat.{ℕ, _+_, _*_, _/_, _^_, _≤_, _<_}
 use native.Mathlib.Omega.{arith}
-use mathlib.Core.Path.{_≡_, refl}
-use mir.Syntax.{w64}
-use mir.Val.{Fits}
+use mathlib.Core.Path.{_≡_, ap, sym, _∙_}
 use Rattle.relations.specs.Code.{mostSets}
+use Rattle.relations.specs.Trees.{Subquery}
 use Rattle.relations.proofs.Turns.{below-sets}
 use Rattle.query.specs.declared.Query.{Query}
-use Rattle.query.specs.Query.{Valid, relationsOf}
-use Rattle.tables.specs.Work.{cellsNeeded}
-use Rattle.filler.specs.Cells.{place}
+use Rattle.query.specs.Query.{Valid, relationsOf, sitesOf}
+use Rattle.tables.specs.Work.{cellsNeeded, place}
+use Rattle.tables.proofs.Work.{place-mono, row-within, row-spare}
+use Rattle.filler.specs.Cells.{paired}
 
--- The place of a cell.
-pub place-is : (S t : ℕ) → 8 * S + t ≡ place S t
-unfolding place
-place-is S t = refl
+-- Pairs reach over every site and at most one cell further.
+pub paired-least : (s : ℕ) → s ≤ paired s
+unfolding paired
+paired-least s = omega arith
 
-pub place-fits : (S t at : ℕ) → S < mostSets → t < 8 → at ≡ place S t → Fits w64 (at * 8)
-unfolding place
-place-fits S t at h g e = omega arith
+pub paired-most : (s : ℕ) → paired s ≤ s + 1
+unfolding paired
+paired-most s = omega arith
+
+pub paired-eight : (s : ℕ) → s ≤ 8 → paired s ≤ 8
+unfolding paired
+paired-eight s h = omega arith
+
+-- A pair that begins at a site lies within.
+pub pair-within : (h t s : ℕ) → t ≡ 2 * h → t < s → t + 2 ≤ paired s
+unfolding paired
+pair-within h t s e l = omega arith
+
+-- Pairs that end past the last site have gone as far as pairs reach.
+pub pair-last : (h t s : ℕ) → t ≡ 2 * h → t ≤ paired s → s ≤ t → paired s ≡ t
+unfolding paired
+pair-last h t s e l k = omega arith
 
 -- A set of relations is below 512.
 pub set-low : (q : Query) → Valid q → (S : ℕ) → S < 2 ^ relationsOf q → S < mostSets
 set-low q v S h = below-sets S (relationsOf q) (v .relations-most) h
 
-pub place-low : (q : Query) (S t : ℕ) → S < mostSets → t < 8 → place S t < cellsNeeded q
-unfolding place cellsNeeded
-place-low q S t h g = omega arith
+-- What pairs reach of a row with a further subquery behind it lies within the need.
+pub reach-within : (q : Query) → Valid q → (S T : ℕ) → Subquery (q .joins) (relationsOf q) S → Subquery (q .joins) (relationsOf q) T → S < T →
+    place q S 0 + paired (sitesOf q) ≤ cellsNeeded q
+reach-within q v S T s t h = omega (arith, row-spare q S T s t h, paired-most (sitesOf q), v .sites-some)
 
-pub place-apart : (S T t u : ℕ) → t < 8 → u < 8 → place S t ≡ place T u → (S ≡ T) × (t ≡ u)
-unfolding place
-place-apart S T t u h g e = (omega arith, omega arith)
+-- So does where a row begins that has one behind it.
+pub place-low : (q : Query) (S T : ℕ) → Subquery (q .joins) (relationsOf q) T → S ≤ T → place q S 0 ≤ cellsNeeded q
+place-low q S T t h = omega (arith, place-mono q S T h, row-within q T t)

@@ -2,25 +2,32 @@
 -- in it, and the cells that are stored for it are Delivered.
 use Prim.Native.Nat.{ℕ, _+_, _-_, _*_, _%_, _^_, _≤_, _<_}
 use native.Mathlib.Omega.{arith}
-use mathlib.Core.Path.{_≡_, sym, ap, _∙_}
+use mathlib.Core.Path.{_≡_, refl, sym, ap, _∙_}
 use mathlib.Core.Bool.{Bool, true, false}
 use mathlib.Core.List.{List}
 use lib.Count.{ones, ones-le}
-use lib.ListN.{getD}
+use lib.ListN.{length, getD, set}
 use lib.Pow.{pow-pos, pow-mono}
 use Rattle.relations.specs.Code.{mostSets}
+use Rattle.relations.specs.Sets.{all}
 use Rattle.relations.specs.Trees.{isSubquery, Subquery}
 use Rattle.relations.specs.Table.{joinBits, isConnected}
+use Rattle.relations.proofs.Bits.{all-below}
 use Rattle.relations.proofs.Entries.{tested, entry-joins}
+use Rattle.relations.proofs.Subqueries.{subqueries-law}
 use Rattle.query.specs.declared.Query.{Query}
 use Rattle.query.specs.Query.{relationsOf}
 use Rattle.rules.specs.Combine.{Combines}
 use Rattle.tables.proofs.Tables.{ones-some}
+use Rattle.tables.specs.Work.{mostCells}
 use Rattle.tables.proofs.Trials.{joins-below}
-use Rattle.filler.specs.Cells.{Stored}
-use Rattle.board.specs.Board.{joinsAt}
-use Rattle.filler.specs.Trials.{Lent, lent, sizeIn, startIn, deliveredIn}
-use Rattle.filler.specs.Filling.{LaidOut, Startable, Fillable}
+use Rattle.tables.proofs.Work.{most-cells}
+use Rattle.filler.specs.Cells.{paired, Stored}
+use Rattle.board.specs.Board.{joinsAt, sitesAt}
+use Rattle.board.proofs.LeastFigures.{least-most}
+use Rattle.filler.specs.Trials.{Lent, lent, sizeIn, Startable, startIn, deliveredIn}
+use Rattle.filler.specs.Filling.{LaidOut, Fillable}
+use Rattle.filler.proofs.Places.{place-low, reach-within}
 use Rattle.filler.proofs.Columns.{startable, cells-are}
 use Rattle.filler.proofs.SetsFilled.{Going, going-skip, going-on}
 
@@ -29,34 +36,45 @@ module _ (q : Query) (l : Lent) (table : List ℕ) (f : Fillable q l table) wher
   joins-few = let v = f .laid .valid in omega (arith, f .laid .board .joins, v .tree .joins, v .relations-most)
 
   -- The sets end where they should.
-  pub end-is : (e : ℕ) → e ≡ 2 ^ (joinsAt (l .board) + 1) → e ≡ 2 ^ relationsOf q
-  end-is e h = h ∙ ap (λ (m : ℕ). 2 ^ (m + 1)) (f .laid .board .joins) ∙ ap (λ (n : ℕ). 2 ^ n) (f .laid .valid .tree .joins)
+  pub end-is : (e : ℕ) → e ≡ all (joinsAt (l .board) + 1) → e ≡ all (relationsOf q)
+  end-is e h = h ∙ ap (λ (m : ℕ). all (m + 1)) (f .laid .board .joins) ∙ ap all (f .laid .valid .tree .joins)
 
-  pub end-low : (e : ℕ) → e ≡ 2 ^ relationsOf q → (1 ≤ e) × (e ≤ mostSets)
-  end-low e h = (omega (arith, pow-pos (relationsOf q)), omega (arith, pow-mono {i = relationsOf q} {j = 9} (f .laid .valid .relations-most)))
+  pub end-low : (e : ℕ) → e ≡ all (relationsOf q) → (1 ≤ e) × (e < mostSets)
+  end-low e h =
+      (omega (arith, pow-mono {i = 1} {j = relationsOf q} (omega (arith, f .laid .valid .tree .joins))), omega (arith, pow-pos (relationsOf q), pow-mono {i = relationsOf q} {j = 9} (f .laid .valid .relations-most)))
 
-module _ (combine : ℕ → ℕ → ℕ) (C : Combines combine) (b sizes table old work : List ℕ) (S tried e : ℕ) (q : Query) (f : Fillable q (lent b sizes old) table)
-    (g : Going combine q old work S tried) (below : S < e) (end : e ≡ 2 ^ relationsOf q) (d : Bool) (test : d ≡ isConnected (getD table S 0)) where
-  end-here : e ≡ 2 ^ (q .joins .count + 1)
-  end-here = end ∙ ap (λ (n : ℕ). 2 ^ n) (sym (f .laid .valid .tree .joins))
+module _ (combine : ℕ → ℕ → ℕ) (C : Combines combine) (b sizes table before old work places : List ℕ) (S next tried e : ℕ) (q : Query)
+    (f : Fillable q (lent b sizes before old) table) (g : Going combine q old work places S next tried) (below : S < e) (end : e ≡ all (relationsOf q)) (d : Bool)
+    (test : d ≡ isConnected (getD table S 0)) where
+  low : S < 2 ^ (q .joins .count + 1)
+  low = omega (arith, all-below (relationsOf q), ap (λ (n : ℕ). 2 ^ n) (f .laid .valid .tree .joins))
 
-  laid-now : LaidOut q (lent b sizes work)
+  set-few : S < 2 ^ 9
+  set-few = omega (arith, all-below (relationsOf q), pow-mono {i = relationsOf q} {j = 9} (f .laid .valid .relations-most))
+
+  laid-now : LaidOut q (lent b sizes places work)
   laid-now = record { valid = f .laid .valid; board = f .laid .board; sizes = f .laid .sizes }
 
   is-subquery : d ≡ isSubquery (q .joins) (relationsOf q) S
-  is-subquery = tested (q .joins) table S e d (f .table-is) test below end-here ∙ ap (λ (n : ℕ). isSubquery (q .joins) n S) (f .laid .valid .tree .joins)
+  is-subquery = tested (q .joins) table S (2 ^ (q .joins .count + 1)) d (f .table-is) test low refl ∙ ap (λ (n : ℕ). isSubquery (q .joins) n S) (f .laid .valid .tree .joins)
 
-  -- The joins counted so far are few.
+  -- The joins counted so far are few, and so are the cells.
   pub ones-few : ones S ≤ 9
-  ones-few = let low : S < 2 ^ 9 = omega (arith, pow-mono {i = relationsOf q} {j = 9} (f .laid .valid .relations-most)) in ones-le 9 S low
+  ones-few = ones-le 9 S set-few
 
   pub tried-few : tried ≤ 8 * mostSets
-  tried-few =
-      let low : S ≤ mostSets = omega (arith, pow-mono {i = relationsOf q} {j = 9} (f .laid .valid .relations-most)) in
-      omega (arith, g .joins, joins-below (q .joins) (relationsOf q) S low)
+  tried-few = let few : S ≤ mostSets = omega (arith, set-few) in omega (arith, g .joins, joins-below (q .joins) (relationsOf q) S few)
 
-  pub turn-skip : d ≡ false → Going combine q old work (S + 1) tried
-  turn-skip out = going-skip combine q (f .laid .valid) old work S tried g (sym is-subquery ∙ out)
+  pub sites-few : (s : ℕ) → s ≡ sitesAt b → s ≤ 8
+  sites-few s is = omega (arith, f .laid .board .sites, f .laid .valid .sites-most)
+
+  pub next-few : next ≤ mostCells
+  next-few =
+      let v = f .laid .valid in
+      omega (arith, g .next-is, place-low q S (all (relationsOf q)) (subqueries-law (q .joins) (relationsOf q) (v .tree) .whole) (omega arith), most-cells q v)
+
+  pub turn-skip : d ≡ false → Going combine q old work places (S + 1) next tried
+  turn-skip out = going-skip combine q (f .laid .valid) old work places S next tried g (sym is-subquery ∙ out)
 
   -- A subquery: what filling its cells asks, and what it leaves.
   module _ (held : d ≡ true) where
@@ -67,14 +85,23 @@ module _ (combine : ℕ → ℕ → ℕ) (C : Combines combine) (b sizes table o
     relations-some = ones-some q (f .laid .valid) S subquery
 
     joins-are : (j : ℕ) → j ≡ getD table S 0 % 256 → j ≡ joinBits (q .joins) S (q .joins .count)
-    joins-are j joins =
-        joins ∙ ap (λ (x : ℕ). x % 256) (f .table-is .entries .each S (omega (arith, end-here))) ∙ entry-joins (q .joins) S (f .table-is .few)
+    joins-are j joins = joins ∙ ap (λ (x : ℕ). x % 256) (f .table-is .entries .each S low) ∙ entry-joins (q .joins) S (f .table-is .few)
 
-    pub turn-startable : (j : ℕ) → j ≡ getD table S 0 % 256 → Startable (lent b sizes work) j S
-    turn-startable j joins = rw (joins-are j joins) (startable combine C q (lent b sizes work) laid-now S subquery (g .cells))
+    pub turn-startable : (j : ℕ) → j ≡ getD table S 0 % 256 → Startable (lent b sizes places work) j S
+    turn-startable j joins = rw (joins-are j joins) (startable combine C q (lent b sizes places work) laid-now S subquery (g .cells))
 
-    pub turn-on : (j : ℕ) → j ≡ getD table S 0 % 256 → (new : List ℕ) →
-        Stored work new S (deliveredIn (startIn combine (lent b sizes work) j S) b (sizeIn (lent b sizes work) S)) → Going combine q old new (S + 1) (tried + (ones S - 1))
-    turn-on j joins new stored =
-        going-on combine q (f .laid .valid) old work S tried g new (deliveredIn (startIn combine (lent b sizes work) j S) b (sizeIn (lent b sizes work) S)) subquery stored
-        (λ t low. rw (joins-are j joins) (cells-are combine C q (lent b sizes work) laid-now S subquery (g .cells) t low))
+    pub turn-roomy : next + paired (sitesAt b) ≤ length work
+    turn-roomy =
+        let v = f .laid .valid in
+        rw (f .laid .board .sites)
+        (omega (arith, g .next-is, reach-within q v S (all (relationsOf q)) subquery (subqueries-law (q .joins) (relationsOf q) (v .tree) .whole) (omega arith), g .cells .room))
+
+    pub turn-on : (j : ℕ) → j ≡ getD table S 0 % 256 → (new noted : List ℕ) (s at : ℕ) → s ≡ sitesAt b → at ≡ next → noted ≡ set places S at →
+        Stored work new next (deliveredIn (startIn combine (lent b sizes places work) j S) b (sizeIn (lent b sizes places work) S)) (paired (sitesAt b)) →
+        Going combine q old new noted (S + 1) (next + s) (tried + (ones S - 1))
+    turn-on j joins new noted s at sites is note stored =
+        rw (note, is, sites ∙ f .laid .board .sites)
+        (going-on combine q (f .laid .valid) old work places S next tried g new (deliveredIn (startIn combine (lent b sizes places work) j S) b (sizeIn (lent b sizes places work) S)) subquery
+        (rw (f .laid .board .sites) at stored)
+        (λ t low. rw (joins-are j joins) (cells-are combine C q (lent b sizes places work) laid-now S subquery (g .cells) t (omega (arith, f .laid .valid .sites-most)) ))
+        (λ t. least-most _ _) (omega arith) (omega (arith, g .noted, set-few)))

@@ -13,7 +13,7 @@ use Rattle.query.specs.Choice.{pick}
 use Rattle.query.specs.Masks.{IsMask}
 use Rattle.query.specs.Prices.{lineCharge, reads}
 use Rattle.board.specs.Figures.{noneMark}
-use Rattle.filler.specs.Cells.{place}
+use Rattle.filler.specs.Cells.{placeIn}
 use Rattle.board.specs.Board.{fixedAt, rateAt, countedAt, lineFixedAt, lineRateAt, sitesAt}
 use Rattle.filler.specs.Trials.{Lent, priceIn, Priced, trialOf, Triable, bareAt, carriageIn, Carriable}
 
@@ -32,7 +32,7 @@ pub price-asks : (b sizes : List ℕ) (P R k read z : ℕ) → Priced b sizes P 
 price-asks b sizes P R k read z p h e = (p .fixed-most, (p .rate-most, (h, rw e (p .sizes-most (P + R)))))
 
 -- A trial: two cells and a price.
-module _ (l : Lent) (P R k a b : ℕ) (ea : a ≡ place P k) (eb : b ≡ place R k) where
+module _ (l : Lent) (P R k a b : ℕ) (ea : a ≡ placeIn (l .places) P k) (eb : b ≡ placeIn (l .places) R k) where
   pub both-most : Triable l P R k → getD (l .work) a 0 + getD (l .work) b 0 ≤ 2 * noneMark
   both-most t = rw (ea, eb) (omega (arith, t .first-cell, t .second-cell))
 

@@ -1,16 +1,17 @@
 -- Each turn of a loop over the eight lanes of a row keeps what the loop has shown so far; and a row of least figures takes one figure more at each lane.
-use Prim.Native.Nat.{ℕ, _+_, _≤_, _<_}
+use Prim.Native.Nat.{ℕ, _+_, _-_, _≤_, _<_}
 use native.Mathlib.Nat.{le-refl, le-antisymm}
 use native.Mathlib.Numerals.{add-one}
 use native.Mathlib.Omega.{arith}
-use native.Mathlib.Decide.{ℕ-discrete}
-use mathlib.Core.Path.{_≡_, refl, _∙_}
+use native.Mathlib.Decide.{ℕ-discrete, decLt}
+use mathlib.Core.Path.{_≡_, refl, ap, subst, _∙_}
 use mathlib.Core.List.{List}
 use lib.ListN.{getD, set, length-set, replicate, getD-replicate}
 use lib.Seq.{getD-set-same, getD-set-other}
+use borrow.Author.Count.{below-none, below-more}
 use Rattle.relations.specs.Code.{Listed}
-use Rattle.relations.proofs.Listed.{listed-none, listed-next, listed-done}
-use Rattle.board.specs.Figures.{noneMark, lesser, leastOf, Lanes, Marked, Tried}
+use Rattle.board.specs.Figures.{noneMark, lesser, leastOf, Lanes, Marked}
+use Rattle.filler.specs.Trials.{TriedAt, TriedFrom}
 use Rattle.board.proofs.LeastFigures.{least-skip}
 
 -- No figure above none: in a row of none, after a store, and in a row of figures none of which is.
@@ -27,41 +28,67 @@ marked-set row k v m h = record { long = length-set row k v ∙ m .long; most = 
 pub lanes-marked : (row : List ℕ) (g : ℕ → ℕ) → Lanes row g → ((k : ℕ) → g k ≤ noneMark) → Marked row
 lanes-marked row g l h = record { long = l .long; most = λ k low. rw (l .each k low) (h k) }
 
--- A row that is tried against new figures from its first lane on.
-pub record TriedTo (old new : List ℕ) (g : ℕ → ℕ) (k : ℕ) : Type 0 where
-  pub below : Listed new (λ (i : ℕ). lesser (g i) (getD old i 0)) 8 k
-  pub above : (i : ℕ) → k ≤ i → getD new i 0 ≡ getD old i 0
-  pub marked : Marked new
+-- A row that is tried against new figures from a site on, one lane more each turn.
+pub tried-none : (old : List ℕ) (g : ℕ → ℕ) (site : ℕ) → Marked old → TriedFrom old old g site 0
+tried-none old g site m = record { kept = record { long = refl; below = λ i l. refl; above = λ i l. refl }; each = below-none _; marked = m }
 
-pub tried-none : (old : List ℕ) (g : ℕ → ℕ) → Marked old → TriedTo old old g 0
-tried-none old g m = record { below = listed-none old _ 8 (m .long); above = λ i l. refl; marked = m }
-
-pub tried-more : (old new : List ℕ) (g : ℕ → ℕ) (k t v : ℕ) → TriedTo old new g k → k < 8 → t ≡ g k → v ≡ lesser t (getD new k 0) → v ≤ noneMark →
-    TriedTo old (set new k v) g (k + 1)
-tried-more old new g k t v r l e f m =
+pub tried-more : (old new : List ℕ) (g : ℕ → ℕ) (site i k t v : ℕ) → TriedFrom old new g site i → k ≡ site + i → k < 8 → t ≡ g k → v ≡ lesser t (getD new k 0) →
+    v ≤ noneMark → TriedFrom old (set new k v) g site (i + 1)
+tried-more old new g site i k t v r at l e f m =
     record {
-      below = listed-next new (λ (i : ℕ). lesser (g i) (getD old i 0)) 8 k v (r .below) l (f ∙ rw (e, r .above k (le-refl k)));
-      above = λ i h. getD-set-other new k i v 0 (λ q. omega arith) ∙ r .above i (omega arith);
+      kept = record {
+        long = length-set new k v ∙ r .kept .long;
+        below = λ j h. getD-set-other new k j v 0 (λ q. omega arith) ∙ r .kept .below j h;
+        above = λ j h. getD-set-other new k j v 0 (λ q. omega arith) ∙ r .kept .above j (omega arith);
+      };
+      each =
+          below-more (λ j. getD (set new k v) (site + j) 0 ≡ lesser (g (site + j)) (getD old (site + j) 0)) i
+          (λ j h. getD-set-other new k (site + j) v 0 (λ q. omega arith) ∙ r .each j h)
+          (rw (← at) (getD-set-same new k v 0 (omega (arith, r .marked .long)) ∙ f ∙ rw (e, r .kept .above k (omega arith))));
       marked = marked-set new k v (r .marked) m;
     }
 
-pub tried-done : (old new : List ℕ) (g : ℕ → ℕ) (k : ℕ) → TriedTo old new g k → 8 ≤ k → Tried old new g × Marked new
-tried-done old new g k r l = (listed-done new _ 8 k 8 (r .below) l, r .marked)
+-- From the first lane on.
+front : (old new : List ℕ) (g : ℕ → ℕ) (m : ℕ) → TriedFrom old new g 0 m → (k : ℕ) → k < m → getD new k 0 ≡ lesser (g k) (getD old k 0)
+front old new g m r k h = let at : 0 + k ≡ k = omega arith in subst (λ (i : ℕ). getD new i 0 ≡ lesser (g i) (getD old i 0)) at (r .each k h)
 
--- A row of least figures, before any figure, with one figure more, and past figures that are none.
-module _ (g : ℕ → ℕ → ℕ) where
-  pub least-none : (row : List ℕ) (m : ℕ) → row ≡ replicate 8 noneMark → m ≡ 0 → Lanes row (λ (k : ℕ). leastOf (g k) m)
+-- Two stretches of lanes, the one behind the other.
+pub tried-both : (old mid new : List ℕ) (g : ℕ → ℕ) (a b : ℕ) → TriedFrom old mid g 0 a → TriedFrom mid new g a b → TriedFrom old new g 0 (a + b)
+tried-both old mid new g a b r t =
+    record {
+      kept = record {
+        long = t .kept .long ∙ r .kept .long;
+        below = λ j h. absurd (omega arith);
+        above = λ j h. t .kept .above j (omega arith) ∙ r .kept .above j (omega arith);
+      };
+      each = λ i h. let at : i ≡ 0 + i = omega arith in subst (λ (j : ℕ). getD new j 0 ≡ lesser (g j) (getD old j 0)) at (go i (omega arith) (decLt i a));
+      marked = t .marked;
+    }
+  where
+    go : (i : ℕ) → i < a + b → Dec (i < a) → getD new i 0 ≡ lesser (g i) (getD old i 0)
+    go i h (yes l) = t .kept .below i l ∙ front old mid g a r i l
+    go i h (no l) =
+        let at : a + (i - a) ≡ i = omega arith in
+        let here : getD new (a + (i - a)) 0 ≡ lesser (g (a + (i - a))) (getD mid (a + (i - a)) 0) = t .each (i - a) (omega arith) in
+        subst (λ (j : ℕ). getD new j 0 ≡ lesser (g j) (getD mid j 0)) at here ∙ ap (lesser (g i)) (r .kept .above i (omega arith))
+
+pub tried-done : (old new : List ℕ) (g : ℕ → ℕ) (m s : ℕ) → TriedFrom old new g 0 m → s ≤ m → TriedAt s old new g × Marked new
+tried-done old new g m s r l = (record { long = r .marked .long; each = λ k h. front old new g m r k (omega arith) }, r .marked)
+
+-- The least figures in the first w lanes of a row, before any figure, with one figure more, and past figures that are none.
+module _ (g : ℕ → ℕ → ℕ) (w : ℕ) where
+  pub least-none : (row : List ℕ) (m : ℕ) → w ≤ 8 → row ≡ replicate 8 noneMark → m ≡ 0 → Listed row (λ (k : ℕ). leastOf (g k) m) 8 w
   unfolding leastOf
-  least-none row m e first = rw (e, first) (record { long = refl; each = λ k h. getD-replicate 8 k noneMark 0 h })
+  least-none row m few e first = rw (e, first) (record { long = refl; each = λ k h. getD-replicate 8 k noneMark 0 (omega arith) })
 
-  pub least-more : (h : ℕ → ℕ) (e : ℕ) (row new : List ℕ) → Lanes row (λ (k : ℕ). leastOf (g k) e) → Tried row new h → ((k : ℕ) → k < 8 → h k ≡ g k e) →
-      Lanes new (λ (k : ℕ). leastOf (g k) (e + 1))
+  pub least-more : (h : ℕ → ℕ) (e : ℕ) (row new : List ℕ) → Listed row (λ (k : ℕ). leastOf (g k) e) 8 w → TriedAt w row new h → ((k : ℕ) → k < w → h k ≡ g k e) →
+      Listed new (λ (k : ℕ). leastOf (g k) (e + 1)) 8 w
   unfolding leastOf
   least-more h e row new r t is = rw (add-one e) (record { long = t .long; each = λ k low. t .each k low ∙ rw (is k low, r .each k low) })
 
-  pub least-past : (p e : ℕ) (row : List ℕ) → Lanes row (λ (k : ℕ). leastOf (g k) p) → p ≤ e → ((k i : ℕ) → p ≤ i → i < e → g k i ≡ noneMark) →
-      Lanes row (λ (k : ℕ). leastOf (g k) e)
+  pub least-past : (p e : ℕ) (row : List ℕ) → Listed row (λ (k : ℕ). leastOf (g k) p) 8 w → p ≤ e → ((k i : ℕ) → p ≤ i → i < e → g k i ≡ noneMark) →
+      Listed row (λ (k : ℕ). leastOf (g k) e) 8 w
   least-past p e row r l none = record { long = r .long; each = λ k low. r .each k low ∙ least-skip (g k) p e l (none k) }
 
-  pub least-done : (m s : ℕ) (row : List ℕ) → Lanes row (λ (k : ℕ). leastOf (g k) m) → m ≤ s → s ≤ m → Lanes row (λ (k : ℕ). leastOf (g k) s)
+  pub least-done : (m s : ℕ) (row : List ℕ) → Listed row (λ (k : ℕ). leastOf (g k) m) 8 w → m ≤ s → s ≤ m → Listed row (λ (k : ℕ). leastOf (g k) s) 8 w
   least-done m s row r l k = rw (le-antisymm l k) at r

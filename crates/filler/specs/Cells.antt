@@ -1,19 +1,20 @@
--- What a cell is: Delivered of a subquery at a site, as a figure. Where the cells of a set stand in the work area.
-use Prim.Native.Nat.{ℕ, _+_, _*_, _<_}
+-- Where the cells of a subquery stand in the work area: one after the other. The loops go over them two at a time, so that for an odd number of sites
+-- they reach one cell further.
+use Prim.Native.Nat.{ℕ, _+_, _*_, _/_, _<_}
 use mathlib.Core.Path.{_≡_}
 use mathlib.Core.List.{List}
-use lib.ListN.{length, getD}
+use lib.ListN.{getD}
+use Rattle.board.specs.Laying.{Kept}
 
--- The place of the cell of S at site t: eight cells a set.
-unfoldable pub place : ℕ → ℕ → ℕ
-place S t = 8 * S + t
+-- The place of the cell of S at site t, by the places of the subqueries' first cells.
+abbrev pub placeIn : List ℕ → ℕ → ℕ → ℕ
+placeIn places S t = getD places S 0 + t
 
--- The cells of S are g 0, g 1, ..; every other cell is as it was.
-pub record Stored (old new : List ℕ) (S : ℕ) (g : ℕ → ℕ) : Type 0 where
-  pub long : length new ≡ length old
-  pub each : (t : ℕ) → t < 8 → getD new (place S t) 0 ≡ g t
-  pub other : (i : ℕ) → ((t : ℕ) → t < 8 → i ≡ place S t → ⊥) → getD new i 0 ≡ getD old i 0
+-- How far pairs reach over s sites.
+unfoldable pub paired : ℕ → ℕ
+paired s = 2 * ((s + 1) / 2)
 
--- The work area has room for the cells of S.
-abbrev pub Roomy : List ℕ → ℕ → Type 0
-Roomy work S = (t : ℕ) → t < 8 → place S t < length work
+-- The m cells from a place on are g 0, g 1, ..; every other cell is as it was.
+pub record Stored (old new : List ℕ) (at : ℕ) (g : ℕ → ℕ) (m : ℕ) : Type 0 where
+  pub kept : Kept old new at (at + m)
+  pub each : (t : ℕ) → t < m → getD new (at + t) 0 ≡ g t

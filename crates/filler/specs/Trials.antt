@@ -4,33 +4,35 @@ use Prim.Native.Nat.{ℕ, _+_, _-_, _≤_, _<_}
 use mathlib.Core.Path.{_≡_}
 use mathlib.Core.List.{List}
 use lib.Bits.{bitAnd}
-use lib.Count.{trailingZeros}
+use lib.Count.{ones, trailingZeros}
 use lib.Dec.{eqb}
 use lib.ListN.{length, getD}
-use Rattle.relations.specs.Code.{mostSets}
+use Rattle.relations.specs.Code.{mostSets, Listed}
 use Rattle.relations.specs.Sets.{bit}
 use Rattle.query.specs.Choice.{pick}
 use Rattle.query.specs.Query.{UpTo}
 use Rattle.query.specs.Prices.{lineCharge, reads, joinCharge}
 use Rattle.query.specs.Masks.{IsMask}
-use Rattle.board.specs.Figures.{noneMark, leastOf, placeOf}
-use Rattle.filler.specs.Cells.{place}
+use Rattle.board.specs.Figures.{noneMark, lesser, leastOf, placeOf, Marked}
+use Rattle.board.specs.Laying.{Kept}
+use Rattle.filler.specs.Cells.{placeIn, paired}
 use Rattle.board.specs.Board.{sideAt, fixedAt, rateAt, countedAt, lineFixedAt, lineRateAt, homesAt, sitesAt}
 
--- What the loops are lent: the board, the sizes and the work area.
+-- What the loops are lent: the board, the sizes, the places of the subqueries' first cells, and the work area.
 pub record Lent : Type 0 where
   pub board : List ℕ
   pub sizes : List ℕ
+  pub places : List ℕ
   pub work : List ℕ
 
-abbrev pub lent : (board sizes work : List ℕ) → Lent
-lent board sizes work = record { board = board; sizes = sizes; work = work }
+abbrev pub lent : (board sizes places work : List ℕ) → Lent
+lent board sizes places work = record { board = board; sizes = sizes; places = places; work = work }
 
 abbrev pub sizeIn : Lent → ℕ → ℕ
 sizeIn l S = getD (l .sizes) S 0
 
 abbrev pub cellIn : Lent → ℕ → ℕ → ℕ
-cellIn l S k = getD (l .work) (place S k) 0
+cellIn l S k = getD (l .work) (placeIn (l .places) S k) 0
 
 -- The price of joining P and R at site k: the fixed amount, and the rate for what is read and for the result.
 abbrev pub priceIn : (board sizes : List ℕ) → (P R k : ℕ) → ℕ
@@ -54,14 +56,28 @@ trialOf combine l P R k = combine (cellIn l P k) (cellIn l R k) + priceIn (l .bo
 -- What a trial asks, so that its sums keep below 2^62.
 pub record Triable (l : Lent) (P R k : ℕ) : Type 0 where
   pub priced : Priced (l .board) (l .sizes) P R k
-  pub first-place : place P k < length (l .work)
-  pub second-place : place R k < length (l .work)
+  pub first-place : placeIn (l .places) P k < length (l .work)
+  pub second-place : placeIn (l .places) R k < length (l .work)
   pub first-cell : cellIn l P k ≤ noneMark
   pub second-cell : cellIn l R k ≤ noneMark
 
 -- The part of S on the first relation's side of join e.
 abbrev pub partBy : Lent → ℕ → ℕ → ℕ
 partBy l S e = bitAnd S (sideAt (l .board) e)
+
+-- A row whose first s lanes, one for each site, are g 0, g 1, ..
+abbrev pub AtSites : (s : ℕ) → List ℕ → (ℕ → ℕ) → Type 0
+AtSites s row g = Listed row g 8 s
+
+-- The row with the figure g k at each site k where it is less.
+abbrev pub TriedAt : (s : ℕ) → (old new : List ℕ) → (ℕ → ℕ) → Type 0
+TriedAt s old new g = AtSites s new (λ (k : ℕ). lesser (g k) (getD old k 0))
+
+-- The same at the m sites from one on; every other lane is as it was.
+pub record TriedFrom (old new : List ℕ) (g : ℕ → ℕ) (site m : ℕ) : Type 0 where
+  pub kept : Kept old new site (site + m)
+  pub each : (i : ℕ) → i < m → getD new (site + i) 0 ≡ lesser (g (site + i)) (getD old (site + i) 0)
+  pub marked : Marked new
 
 -- The figure of join e of S at site k, the joins in S given as bits: none where e is not among them.
 unfoldable pub joinTrial : (ℕ → ℕ → ℕ) → Lent → (joins S k e : ℕ) → ℕ
@@ -70,7 +86,9 @@ joinTrial combine l joins S k e = pick (eqb (bit joins e) 1) (trialOf combine l 
 -- What the joins of a set ask.
 pub record Joinable (l : Lent) (joins S : ℕ) : Type 0 where
   pub few : joins < 256
-  pub each : (e k : ℕ) → e < 8 → k < 8 → bit joins e ≡ 1 → Triable l (partBy l S e) (S - partBy l S e) k
+  pub some-site : 1 ≤ sitesAt (l .board)
+  pub few-sites : sitesAt (l .board) ≤ 8
+  pub each : (e k : ℕ) → e < 8 → k < paired (sitesAt (l .board)) → bit joins e ≡ 1 → Triable l (partBy l S e) (S - partBy l S e) k
 
 -- The row of the joins: the least at each site.
 abbrev pub joinedIn : (ℕ → ℕ → ℕ) → Lent → (joins S k : ℕ) → ℕ
@@ -94,6 +112,13 @@ pub record Carriable (b : List ℕ) (size : ℕ) : Type 0 where
   pub fixed-most : (k t : ℕ) → k < sitesAt b → t < 8 → lineFixedAt b k t ≤ noneMark
   pub rate-most : (k t : ℕ) → k < sitesAt b → t < 8 → lineRateAt b k t ≤ 1_000
   pub size-most : size ≤ 1_000_000_000
+
+-- What a subquery's start asks: it has one relation where it has no join, its joins can be tried, and its figures sent.
+pub record Startable (l : Lent) (joins S : ℕ) : Type 0 where
+  pub set-in : S < mostSets
+  pub alone : joins ≡ 0 → ones S ≡ 1
+  pub joinable : Joinable l joins S
+  pub carriable : Carriable (l .board) (sizeIn l S)
 
 -- The figure at t by way of site k, from what has been spent at each site; the least of these, and the lowest site of it.
 unfoldable pub siteTrial : (ℕ → ℕ) → List ℕ → (size t k : ℕ) → ℕ

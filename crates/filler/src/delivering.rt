@@ -1,5 +1,4 @@
 // Delivered: the least over the sites that a subquery can start from, with the line from there.
-use crate::placing::place;
 use board::LINE_FIXED;
 use board::LINE_RATE;
 use board::NONE;
@@ -10,11 +9,11 @@ use query::Charge;
 use query::price::line_price;
 ghost use Prim.Native.Nat.{ℕ, _+_, _≤_, _<_};
 ghost use mathlib.Core.Path.{_≡_};
-ghost use lib.ListN.{getD};
-ghost use Rattle.relations.specs.Code.{mostSets};
+ghost use lib.ListN.{length, getD};
 ghost use Rattle.query.specs.Prices.{dearestLine};
 ghost use Rattle.board.specs.Figures.{noneMark, Lanes, Marked, Tried};
-ghost use Rattle.filler.specs.Cells.{Roomy, Stored};
+ghost use Rattle.tables.specs.Work.{mostCells};
+ghost use Rattle.filler.specs.Cells.{paired, Stored};
 ghost use Rattle.board.specs.Board.{sitesAt};
 ghost use Rattle.filler.specs.Trials.{carriageIn, Carriable, deliveredIn};
 
@@ -55,24 +54,26 @@ fn delivered_row(board: &[u64; 256], row: &[u64; 8], size: Bytes) -> [u64; 8]
     best
 }
 
-// The cells of a subquery.
-fn store(work: &mut [u64], set: usize, row: &[u64; 8])
-    requires { ⌜ (set < mostSets) × Roomy (now work) set ⌝ }
-    ensures { λ _. ⌜ Stored (now (work .entry)) (now (work .exit)) set (λ (t : ℕ). getD (now (row .entry)) t 0) ⌝ }
+// The cells of a subquery, two at a time: for an odd number of sites one more is stored behind them, where the next subquery begins.
+fn store(work: &mut [u64], row: &[u64; 8], at: usize, sites: usize)
+    requires { ⌜ (sites ≤ 8) × ((at ≤ mostCells) × (at + paired sites ≤ length (now work))) ⌝ }
+    ensures { λ _. ⌜ Stored (now (work .entry)) (now (work .exit)) at (λ (t : ℕ). getD (now (row .entry)) t 0) (paired sites) ⌝ }
 {
     let mut t = 0;
-    while t < 8 {
-        let at = place(set, t);
-        work[at] = row[t];
-        t += 1;
+    while t < sites {
+        work[at + t] = row[t];
+        work[at + t + 1] = row[t + 1];
+        t += 2;
     }
 }
 
 // The cells of a subquery from what it has cost at each site where it can start from.
-pub(crate) fn deliver(work: &mut [u64], board: &[u64; 256], row: &[u64; 8], size: Bytes, set: usize)
-    requires { ⌜ (Marked (now row) × Carriable (now board) (size .0)) × ((set < mostSets) × Roomy (now work) set) ⌝ }
-    ensures { λ _. ⌜ Stored (now (work .entry)) (now (work .exit)) set (deliveredIn (λ (k : ℕ). getD (now (row .entry)) k 0) (now (board .entry)) (size .0)) ⌝ }
+pub(crate) fn deliver(work: &mut [u64], board: &[u64; 256], row: &[u64; 8], size: Bytes, at: usize)
+    requires { ⌜ (Marked (now row) × Carriable (now board) (size .0)) × ((at ≤ mostCells) × (at + paired (sitesAt (now board)) ≤ length (now work))) ⌝ }
+    ensures { λ _.
+        ⌜ Stored (now (work .entry)) (now (work .exit)) at (deliveredIn (λ (k : ℕ). getD (now (row .entry)) k 0) (now (board .entry)) (size .0))
+        (paired (sitesAt (now (board .entry)))) ⌝ }
 {
     let cells = delivered_row(board, row, size);
-    store(work, set, &cells);
+    store(work, &cells, at, sites_of(board));
 }

@@ -8,7 +8,7 @@ mod trials;
 
 pub use delivering::carriage;
 pub use filling::fill;
-pub use placing::place;
 pub use rows::joined_row;
+pub use rows::start_row;
 pub use trials::size_of;
 pub use trials::trial;

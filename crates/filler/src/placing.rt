@@ -1,13 +1,15 @@
-// Where a cell stands in the work area.
+// Where a cell stands in the work area: subqueries in ascending number, a cell for each site.
+use query::amount;
+use relations::SETS;
 ghost use Prim.Native.Nat.{_<_};
 ghost use mathlib.Core.Path.{_≡_};
 ghost use Rattle.relations.specs.Code.{mostSets};
-ghost use Rattle.filler.specs.Cells.{place};
+ghost use Rattle.filler.specs.Cells.{placeIn};
 
-// The place of a subquery's cell at a site.
-pub fn place(set: usize, site: usize) -> usize
+// The place of a subquery's cell at a site, by the places of the first cells.
+pub(crate) fn place(places: &[u32; SETS], set: usize, site: usize) -> usize
     requires { ⌜ (set < mostSets) × (site < 8) ⌝ }
-    ensures { λ r. ⌜ r ≡ place set site ⌝ }
+    ensures { λ r. ⌜ r ≡ placeIn (now (places .entry)) set site ⌝ }
 {
-    8 * set + site
+    amount(places[set]) as usize + site
 }

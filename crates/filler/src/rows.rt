@@ -1,15 +1,16 @@
 // What a subquery has cost at each site where it can start from: where its one relation stands, else where it is joined.
 use crate::trials::try_split;
 use board::NONE;
+use board::homes_at;
 use board::side_at;
 use relations::SETS;
 use relations::bit;
-use relations::single;
 ghost use Prim.Native.Nat.{_+_};
 ghost use mathlib.Core.Path.{_≡_};
 ghost use Rattle.relations.specs.Sets.{bit};
+ghost use Rattle.board.specs.Board.{sitesAt};
 ghost use Rattle.board.specs.Figures.{Lanes, Marked};
-ghost use Rattle.filler.specs.Trials.{lent, Joinable, joinedIn, bareAt};
+ghost use Rattle.filler.specs.Trials.{lent, AtSites, Joinable, Startable, joinedIn, bareAt, startIn};
 
 // Nothing where the relation stands, none elsewhere.
 fn stands(homes: usize, k: usize) -> u64
@@ -19,7 +20,7 @@ fn stands(homes: usize, k: usize) -> u64
 }
 
 // The row of one relation, by the sites where it stands.
-pub(crate) fn bare_row(homes: usize) -> [u64; 8]
+fn bare_row(homes: usize) -> [u64; 8]
     ensures { λ r. ⌜ Lanes r (bareAt homes) × Marked r ⌝ }
 {
     let mut row = [NONE; 8];
@@ -35,20 +36,40 @@ pub(crate) fn bare_row(homes: usize) -> [u64; 8]
 pub fn joined_row<'a>(
     board: &'a [u64; 256],
     sizes: &'a [u32; SETS],
+    places: &'a [u32; SETS],
     work: &[u64],
     set: usize,
     joins: usize,
 ) -> [u64; 8]
-    requires { ⌜ Joinable (lent (now board) (now sizes) (now work)) joins set ⌝ }
-    ensures { λ r. ⌜ Lanes r (joinedIn _+_ (lent (now (board .entry)) (now (sizes .entry)) (now (work .entry))) joins set) × Marked r ⌝ }
+    requires { ⌜ Joinable (lent (now board) (now sizes) (now places) (now work)) joins set ⌝ }
+    ensures { λ r. ⌜ AtSites (sitesAt (now (board .entry))) r (joinedIn _+_ (lent (now (board .entry)) (now (sizes .entry)) (now (places .entry)) (now (work .entry))) joins set) × Marked r ⌝ }
 {
     let mut row = [NONE; 8];
     let mut left = joins;
     while left != 0 {
         let e = usize::trailing_zeros(left) as usize;
         let part = set & side_at(board, e);
-        try_split(&mut row, board, sizes, work, part, set - part);
-        left = left - single(e);
+        try_split(&mut row, board, sizes, places, work, part, set - part);
+        left = left & (left - 1);
     }
     row
+}
+
+// What a subquery has cost at each site where it can start from, its joins given as bits: none for one relation.
+pub fn start_row<'a>(
+    board: &'a [u64; 256],
+    sizes: &'a [u32; SETS],
+    places: &'a [u32; SETS],
+    work: &[u64],
+    set: usize,
+    joins: usize,
+) -> [u64; 8]
+    requires { ⌜ Startable (lent (now board) (now sizes) (now places) (now work)) joins set ⌝ }
+    ensures { λ r. ⌜ AtSites (sitesAt (now (board .entry))) r (startIn _+_ (lent (now (board .entry)) (now (sizes .entry)) (now (places .entry)) (now (work .entry))) joins set) × Marked r ⌝ }
+{
+    if joins == 0 {
+        let r = usize::trailing_zeros(set) as usize;
+        return bare_row(homes_at(board, r));
+    }
+    joined_row(board, sizes, places, work, set, joins)
 }

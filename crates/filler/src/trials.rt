@@ -4,6 +4,7 @@ use board::FIXED;
 use board::RATE;
 use board::counted_at;
 use board::lesser;
+use board::sites_of;
 use query::Bytes;
 use query::Charge;
 use query::amount;
@@ -15,8 +16,10 @@ ghost use Prim.Native.Nat.{ℕ, _+_, _^_, _≤_, _<_};
 ghost use mathlib.Core.Path.{_≡_};
 ghost use lib.ListN.{getD};
 ghost use Rattle.relations.specs.Code.{mostSets};
-ghost use Rattle.board.specs.Figures.{noneMark, Marked, Tried};
-ghost use Rattle.filler.specs.Trials.{lent, Priced, priceIn, Triable, trialOf};
+ghost use Rattle.board.specs.Board.{sitesAt};
+ghost use Rattle.board.specs.Figures.{noneMark, Marked};
+ghost use Rattle.filler.specs.Cells.{paired};
+ghost use Rattle.filler.specs.Trials.{lent, Priced, priceIn, Triable, trialOf, TriedAt, TriedFrom};
 
 // The size of a set.
 pub fn size_of(sizes: &[u32; SETS], set: usize) -> Bytes
@@ -53,37 +56,73 @@ fn price_at<'a>(
 pub fn trial<'a>(
     board: &'a [u64; 256],
     sizes: &'a [u32; SETS],
+    places: &'a [u32; SETS],
     work: &[u64],
     part: usize,
     rest: usize,
     k: usize,
 ) -> u64
-    requires { ⌜ Triable (lent (now board) (now sizes) (now work)) part rest k ⌝ }
-    ensures { λ r. ⌜ (r ≡ trialOf _+_ (lent (now (board .entry)) (now (sizes .entry)) (now (work .entry))) part rest k) × (r < 2 ^ 62) ⌝ }
+    requires { ⌜ Triable (lent (now board) (now sizes) (now places) (now work)) part rest k ⌝ }
+    ensures { λ r. ⌜ (r ≡ trialOf _+_ (lent (now (board .entry)) (now (sizes .entry)) (now (places .entry)) (now (work .entry))) part rest k) × (r < 2 ^ 62) ⌝ }
 {
     let price = price_at(board, sizes, part, rest, k);
-    let a = place(part, k);
-    let b = place(rest, k);
+    let a = place(places, part, k);
+    let b = place(places, rest, k);
     let both = combine(Charge(work[a]), Charge(work[b]));
     both.0 + price.0
 }
 
-// The row with the trials of one split where they are less.
+// The row with the trials of one split at two sites where they are less.
+fn try_pair<'a>(
+    row: &mut [u64; 8],
+    board: &'a [u64; 256],
+    sizes: &'a [u32; SETS],
+    places: &'a [u32; SETS],
+    work: &[u64],
+    part: usize,
+    rest: usize,
+    site: usize,
+)
+    requires { ⌜ (Marked (now row) × (site ≤ 6)) × ((i : ℕ) → i < 2 → Triable (lent (now board) (now sizes) (now places) (now work)) part rest (site + i)) ⌝ }
+    ensures { λ _.
+        ⌜ TriedFrom (now (row .entry)) (now (row .exit)) (trialOf _+_ (lent (now (board .entry)) (now (sizes .entry)) (now (places .entry)) (now (work .entry))) part rest) site 2 ⌝ }
+{
+    let mut i = 0;
+    while i < 2 {
+        let k = site + i;
+        row[k] = lesser(trial(board, sizes, places, work, part, rest, k), row[k]);
+        i += 1;
+    }
+}
+
+// The same at every site. The pairs are written out, so that their lanes are constants and the row stays in registers.
 pub(crate) fn try_split<'a>(
     row: &mut [u64; 8],
     board: &'a [u64; 256],
     sizes: &'a [u32; SETS],
+    places: &'a [u32; SETS],
     work: &[u64],
     part: usize,
     rest: usize,
 )
-    requires { ⌜ Marked (now row) × ((k : ℕ) → k < 8 → Triable (lent (now board) (now sizes) (now work)) part rest k) ⌝ }
+    requires { ⌜ Marked (now row) × ((k : ℕ) → k < paired (sitesAt (now board)) → Triable (lent (now board) (now sizes) (now places) (now work)) part rest k) ⌝ }
+    requires { ⌜ (1 ≤ sitesAt (now board)) × (sitesAt (now board) ≤ 8) ⌝ }
     ensures { λ _.
-        ⌜ Tried (now (row .entry)) (now (row .exit)) (trialOf _+_ (lent (now (board .entry)) (now (sizes .entry)) (now (work .entry))) part rest) × Marked (now (row .exit)) ⌝ }
+        ⌜ TriedAt (sitesAt (now (board .entry))) (now (row .entry)) (now (row .exit)) (trialOf _+_ (lent (now (board .entry)) (now (sizes .entry)) (now (places .entry)) (now (work .entry))) part rest)
+        × Marked (now (row .exit)) ⌝ }
 {
-    let mut k = 0;
-    while k < 8 {
-        row[k] = lesser(trial(board, sizes, work, part, rest, k), row[k]);
-        k += 1;
+    let sites = sites_of(board);
+    try_pair(&mut *row, board, sizes, places, work, part, rest, 0);
+    if sites <= 2 {
+        return;
     }
+    try_pair(&mut *row, board, sizes, places, work, part, rest, 2);
+    if sites <= 4 {
+        return;
+    }
+    try_pair(&mut *row, board, sizes, places, work, part, rest, 4);
+    if sites <= 6 {
+        return;
+    }
+    try_pair(&mut *row, board, sizes, places, work, part, rest, 6);
 }

@@ -31,7 +31,7 @@ module _ (q : Query) where
   unfolding place
   place-first = omega (arith, ap (λ (x : ℕ). sitesOf q * x) (count-first (q .joins) (relationsOf q)))
 
-  place-mono : (S T : ℕ) → S ≤ T → place q S 0 ≤ place q T 0
+  pub place-mono : (S T : ℕ) → S ≤ T → place q S 0 ≤ place q T 0
   unfolding place
   place-mono S T h = omega (arith, mul-le-mul-left (sitesOf q) (count-mono (q .joins) (relationsOf q) S T h))
 

@@ -23,7 +23,7 @@ delivered-row-spec =
     Inv-loop
     μ-loop
     (λ c κs. search needs)
-    (λ c. (search needs, (least-none _ _ _ (search needs) (search needs), none-marked)))
+    (λ c. (search needs, (least-none _ 8 _ _ (omega arith) (search needs) (search needs), none-marked)))
     (λ c. let a = c .before .before .before in omega (arith, a .before .pre .1 .few, a .sites-of .ensures))
     (λ c. let a = c .before .before .before in omega (arith, a .before .pre .1 .few, a .sites-of .ensures))
     (λ c κs. let i = c .before .before .before in let s = i .before .before in let e = i .before .sites-of .ensures in
@@ -31,5 +31,5 @@ delivered-row-spec =
     (λ c. search needs)
     (λ c. search needs)
     (λ c. let i = c .before .before .before .before in
-    (search needs, (least-more _ _ _ _ _ (i .loop .inv .1 .0) (c .send-from .ensures .0) (λ t low. site-is _ _ _ t _), c .send-from .ensures .1)))
-    (λ c. let i = c .before in let e = i .before .sites-of .ensures in least-done _ _ _ _ (i .loop .inv .1 .0) (omega arith) (omega arith)))
+    (search needs, (least-more _ 8 _ _ _ _ (i .loop .inv .1 .0) (c .send-from .ensures .0) (λ t low. site-is _ _ _ t _), c .send-from .ensures .1)))
+    (λ c. let i = c .before in let e = i .before .sites-of .ensures in least-done _ 8 _ _ _ (i .loop .inv .1 .0) (omega arith) (omega arith)))

@@ -3,13 +3,13 @@ use Prim.Native.Nat.{ℕ, _+_, _-_}
 use native.Mathlib.Omega.{arith}
 use mathlib.Core.Path.{ap}
 use borrow.Author.Needs.{needs}
-use Rattle.filler.specs.Trials.{carriageIn}
-use Rattle.filler.proofs.Turns.{TriedTo, tried-none, tried-more, tried-done}
+use Rattle.filler.specs.Trials.{carriageIn, TriedFrom}
+use Rattle.filler.proofs.Turns.{tried-none, tried-more, tried-done}
 use Rattle.filler.proofs.delivering.send_from.Statement.{statement}
 use Rattle.filler.proofs.delivering.send_from.Tie as tie
 
 abbrev Inv-loop : tie.InvT-loop
-Inv-loop best₀ board figure size k t₀ best t = TriedTo best₀ best (λ (i : ℕ). figure + carriageIn board (size .0) k i) t
+Inv-loop best₀ board figure size k t₀ best t = TriedFrom best₀ best (λ (i : ℕ). figure + carriageIn board (size .0) k i) 0 t
 
 abbrev μ-loop : tie.MeasureT-loop
 μ-loop best₀ board figure size k t₀ best t = 8 - t
@@ -32,6 +32,6 @@ send-from-spec =
     (λ c. search needs)
     (λ c. search needs)
     (λ c. let u = c .before .before .before in let i = u .before in
-    tried-more _ _ _ _ _ _ (i .before .loop .inv) (i .loop-test .taken)
+    tried-more _ _ _ _ _ _ _ _ (i .before .loop .inv) (omega arith) (i .loop-test .taken)
     (ap (λ (x : ℕ). i .before .before .args .figure + x) (u .carriage .ensures .0)) (c .lesser .ensures .0) (c .lesser .ensures .1))
-    (λ c. tried-done _ _ _ _ (c .before .loop .inv) (c .loop-test .left)))
+    (λ c. tried-done _ _ _ _ 8 (c .before .loop .inv) (c .loop-test .left)))
