@@ -4,7 +4,7 @@ use Prim.Native.Nat.{ℕ, zero, suc, _+_, _-_, _^_, _≤_, _<_}
 use native.Mathlib.Nat.{le-refl, le-antisymm, pow-suc}
 use native.Mathlib.Numerals.{add-one}
 use native.Mathlib.Omega.{arith}
-use mathlib.Core.Path.{_≡_, refl, sym, ap, _∙_}
+use mathlib.Core.Path.{_≡_, refl, sym, ap, subst, _∙_}
 use mathlib.Core.Bool.{Bool, true, false}
 use mathlib.Core.List.{List}
 use lib.Bits.{bitAnd}
@@ -23,13 +23,16 @@ use Rattle.query.specs.Choice.{pick}
 use Rattle.query.specs.Query.{relationsOf, sitesOf}
 use Rattle.query.specs.Prices.{dearestLine}
 use Rattle.rules.specs.Combine.{Combines}
+use Rattle.tables.specs.Tables.{delivered}
 use Rattle.board.specs.declared.figures.Choice.{Choice}
-use Rattle.board.specs.Figures.{noneMark, placeOf, ChoiceOf, betterOf, Lanes, Marked}
+use Rattle.board.specs.Figures.{noneMark, mark, ChoiceOf, betterOf, Marked}
 use Rattle.board.specs.Board.{endsAt, sideAt, joinsAt, sitesAt}
-use Rattle.filler.specs.Trials.{Lent, sizeIn, trialOf, Triable, joinTrial, Joinable, joinedIn, carriageIn, Carriable, siteTrial, siteIn}
+use Rattle.filler.specs.Trials.{Lent, sizeIn, AtSites, trialOf, Triable, joinTrial, Joinable, joinedIn, Startable, startIn, carriageIn, Carriable, siteTrial, siteIn}
 use Rattle.filler.specs.Filling.{Filled}
 use Rattle.solver.specs.Writing.{joinsWithin, siteBy, joinBy, Known}
 use Rattle.board.proofs.LeastFigures.{choice-more, choice-same, place-same}
+use Rattle.filler.proofs.Places.{paired-least}
+use Rattle.filler.proofs.Started.{startCost, delivered-started}
 use Rattle.filler.proofs.Columns as columns
 use Rattle.solver.proofs.Chosen.{within-is}
 
@@ -65,8 +68,8 @@ unfolding joinsWithin
 within-none b S = refl
 
 -- The last turn.
-pub choice-done : (g : ℕ → ℕ) (k s m : ℕ) (c : Choice) → ChoiceOf g k c → k ≤ s → s ≤ k → s ≡ m → c .at ≡ placeOf g m
-choice-done g k s m c h le ge is = h .at-is ∙ ap (placeOf g) (le-antisymm le ge ∙ is)
+pub choice-done : (g : ℕ → ℕ) (k s m : ℕ) (c : Choice) → ChoiceOf g k c → k ≤ s → s ≤ k → s ≡ m → ChoiceOf g m c
+choice-done g k s m c h le ge is = subst (λ (n : ℕ). ChoiceOf g n c) (le-antisymm le ge ∙ is) h
 
 -- The sites, one after the other.
 pub site-more : (row : ℕ → ℕ) (b : List ℕ) (size t k x r : ℕ) (kept made : Choice) → ChoiceOf (siteTrial row b size t) k kept → x ≡ row k →
@@ -84,11 +87,11 @@ within l S = joinsWithin (l .board) S (joinsAt (l .board))
 
 module _ (combine : ℕ → ℕ → ℕ) (l : Lent) (S : ℕ) where
   -- A choice among what a row holds is one among the figures that the row was worked out from.
-  pub site-by : (row : List ℕ) (joins x t r : ℕ) → joins ≡ within l S → Lanes row (joinedIn combine l joins S) → x ≡ sizeIn l S → sitesAt (l .board) ≤ 8 →
+  pub site-by : (row : List ℕ) (joins x t r : ℕ) → joins ≡ within l S → AtSites (sitesAt (l .board)) row (joinedIn combine l joins S) → x ≡ sizeIn l S →
       r ≡ siteIn (λ (k : ℕ). getD row k 0) (l .board) x t → r ≡ siteBy combine l S t
   unfolding siteTrial
-  site-by row joins x t r joins-are lanes x-is few is =
-      is ∙ place-same _ _ (sitesAt (l .board)) (λ k m. rw (lanes .each k (omega arith), joins-are, x-is))
+  site-by row joins x t r joins-are lanes x-is is =
+      is ∙ place-same _ _ (sitesAt (l .board)) (λ k m. rw (lanes .each k m, joins-are, x-is))
 
   -- The joins, one after the other: one that is not in the set changes nothing.
   module _ (joins k e d : ℕ) (kept : Choice) (c : ChoiceOf (joinTrial combine l joins S k) e kept) (is : d ≡ bit joins e) where
@@ -103,7 +106,7 @@ module _ (combine : ℕ → ℕ → ℕ) (l : Lent) (S : ℕ) where
     join-worse none = choice-same _ e kept c (rw (ne-eqb (bit joins e) 1 (λ h. none (is ∙ h))))
 
   pub join-by : (joins k e : ℕ) (c : Choice) → joins ≡ within l S → ChoiceOf (joinTrial combine l joins S k) e c → e ≤ 8 → 8 ≤ e → c .at ≡ joinBy combine l S k
-  join-by joins k e c joins-are h le ge = rw (← joins-are) (choice-done (joinTrial combine l joins S k) e 8 8 c h le ge refl)
+  join-by joins k e c joins-are h le ge = rw (← joins-are) (choice-done (joinTrial combine l joins S k) e 8 8 c h le ge refl .at-is)
 
 -- What the choices ask of a query whose cells are filled.
 module _ (combine : ℕ → ℕ → ℕ) (C : Combines combine) (q : Query) (l : Lent) (S : ℕ) (k : Known combine q l S) where
@@ -113,8 +116,14 @@ module _ (combine : ℕ → ℕ → ℕ) (C : Combines combine) (q : Query) (l :
   pub known-low : S < mostSets
   known-low = below-sets S (relationsOf q) (k .laid .valid .relations-most) low
 
-  pub filled-here : Filled combine q (l .work) S
-  filled-here = record { room = k .filled .room; each = λ T t h s m. k .filled .each T t (omega (arith, low)) s m }
+  pub filled-here : Filled combine q (l .places) (l .work) S
+  filled-here =
+      record {
+        room = k .filled .room;
+        first = λ T h s. k .filled .first T (omega (arith, low)) s;
+        each = λ T t h s m. k .filled .each T t (omega (arith, low)) s m;
+        most = λ T t h s m. k .filled .most T t (omega (arith, low)) s m;
+      }
 
   pub few-joins : joinsAt (l .board) ≤ 8
   few-joins = let v = k .laid .valid in omega (arith, k .laid .board .joins, v .tree .joins, v .relations-most)
@@ -122,17 +131,30 @@ module _ (combine : ℕ → ℕ → ℕ) (C : Combines combine) (q : Query) (l :
   pub carriable : (x : ℕ) → x ≡ sizeIn l S → Carriable (l .board) x
   carriable x is = rw is (columns.carriable combine C q l (k .laid) S (k .subquery))
 
-  pub few-sites : sitesAt (l .board) ≤ 8
-  few-sites = omega (arith, k .laid .board .sites, k .laid .valid .sites-most)
-
   pub site-low : (t : ℕ) → t < sitesOf q → t < 8
   site-low t h = omega (arith, k .laid .valid .sites-most)
 
+  pub startable : (joins : ℕ) → joins ≡ within l S → Startable l joins S
+  startable joins is = rw (is, within-is combine C q l (k .laid) S (k .subquery)) (columns.startable combine C q l (k .laid) S (k .subquery) filled-here)
+
   pub joinable : (joins : ℕ) → joins ≡ within l S → Joinable l joins S
-  joinable joins is =
-      rw (is, within-is combine C q l (k .laid) S (k .subquery)) (columns.startable combine C q l (k .laid) S (k .subquery) filled-here .joinable)
+  joinable joins is = startable joins is .joinable
+
+  -- The least figure from the row that S starts from is Delivered.
+  pub figure-is : (row : List ℕ) (joins x t : ℕ) (c : Choice) → joins ≡ within l S → AtSites (sitesAt (l .board)) row (startIn combine l joins S) → x ≡ sizeIn l S → t < 8 →
+      ChoiceOf (siteTrial (λ (i : ℕ). getD row i 0) (l .board) x t) (sitesAt (l .board)) c → c .figure ≡ mark (delivered combine q S t)
+  figure-is row joins x t c joins-are lanes x-is site chosen =
+      chosen .figure-is
+      ∙ rw (x-is, k .laid .board .sites)
+      (columns.sites-kept combine C q l (k .laid) S (k .subquery) (λ (i : ℕ). getD row i 0) start t site .figure-is)
+      ∙ ap mark (sym (delivered-started combine q (k .laid .valid) S t (k .subquery)))
+    where
+      start : (i : ℕ) → i < sitesOf q → getD row i 0 ≡ mark (startCost combine q S i)
+      start i h =
+          lanes .each i (omega (arith, k .laid .board .sites))
+          ∙ rw (joins-are, within-is combine C q l (k .laid) S (k .subquery)) (columns.start-is combine C q l (k .laid) S (k .subquery) filled-here i h)
 
   pub triable : (joins e d side i : ℕ) → joins ≡ within l S → e < 8 → i < sitesOf q → d ≡ bit joins e → d ≡ 1 → side ≡ sideAt (l .board) e →
       Triable l (bitAnd S side) (S - bitAnd S side) i
   triable joins e d side i is h listed d-is one side-is =
-      rw side-is (joinable joins is .each e i h (omega (arith, k .laid .valid .sites-most)) (sym d-is ∙ one))
+      rw side-is (joinable joins is .each e i h (omega (arith, k .laid .board .sites, paired-least (sitesAt (l .board)))) (sym d-is ∙ one))

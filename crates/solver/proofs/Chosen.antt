@@ -41,7 +41,7 @@ module _ (combine : ℕ → ℕ → ℕ) (C : Combines combine) (q : Query) (l :
   pub within-is : joinsWithin (l .board) S (joinsAt (l .board)) ≡ joinBits (q .joins) S (q .joins .count)
   within-is = rw (laid .board .joins) (within-first (q .joins .count) (le-refl _))
 
-  module _ (filled : Filled combine q (l .work) S) where
+  module _ (filled : Filled combine q (l .places) (l .work) S) where
     -- With two relations or more: the best site and the best join are the loops' choices.
     pub site-is : (t : ℕ) → t < 8 → (ones S ≡ 1 → ⊥) → siteBy combine l S t ≡ bestSite combine q S t
     unfolding bestSite startCost
@@ -52,4 +52,4 @@ module _ (combine : ℕ → ℕ → ℕ) (C : Combines combine) (q : Query) (l :
 
     pub join-is : (k : ℕ) → k < sitesOf q → mayJoin q k ≡ true → (ones S ≡ 1 → ⊥) → joinBy combine l S k ≡ bestJoin combine q S k
     unfolding bestJoin
-    join-is k low may more = rw within-is (joins-kept combine C q l laid S s filled k (omega (arith, laid .valid .sites-most)) may .at-is)
+    join-is k low may more = rw within-is (joins-kept combine C q l laid S s filled k low may .at-is)

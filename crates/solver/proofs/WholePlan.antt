@@ -1,9 +1,9 @@
 -- The whole plan: all relations at the query site, in room for the longest plan; its count goes before its steps.
-use Prim.Native.Nat.{ℕ, _+_, _-_, _/_, _^_, _≤_}
+use Prim.Native.Nat.{ℕ, _+_, _-_, _/_, _≤_}
 use native.Mathlib.Omega.{arith}
 use mathlib.Core.Path.{_≡_, ap, _∙_}
 use mathlib.Core.List.{List, _++_}
-use lib.ListN.{length, drop, set}
+use lib.ListN.{length, getD, drop, set}
 use mir.Syntax.{w8}
 use mir.Val.{Fits}
 use Rattle.relations.specs.Sets.{all}
@@ -17,34 +17,51 @@ use Rattle.tables.specs.Tables.{cheapest}
 use Rattle.tables.specs.Written.{writtenDelivered, writtenSteps, stepBytes, written}
 use Rattle.tables.proofs.Upper.{written-most}
 use Rattle.tables.proofs.StepBytes.{step-bytes-long}
-use Rattle.board.specs.Board.{joinsAt}
-use Rattle.filler.specs.Trials.{Lent}
+use Rattle.board.specs.declared.figures.Choice.{Choice}
+use Rattle.board.specs.Figures.{mark, ChoiceOf}
+use Rattle.board.specs.Board.{joinsAt, sitesAt}
+use Rattle.filler.specs.Trials.{Lent, sizeIn, AtSites, startIn, siteTrial}
 use Rattle.filler.specs.Filling.{LaidOut, Filled}
-use Rattle.solver.specs.Writing.{Wrote, ToDeliver}
+use Rattle.solver.specs.Writing.{joinsWithin, Wrote, Known, ToDeliver}
 use Rattle.solver.proofs.Stores.{plan-stored}
+use Rattle.solver.proofs.Choices.{figure-is}
 
 module _ (combine : ℕ → ℕ → ℕ) (C : Combines combine) (l : Lent) (t joins S : ℕ) (joins-are : joins ≡ joinsAt (l .board)) (every : S ≡ all (joins + 1)) where
-  -- The query that is laid out, with a way to its query site.
-  module _ (q : Query) (laid : LaidOut q l) (filled : Filled combine q (l .work) (2 ^ relationsOf q)) (to : q .target ≡ t) (c : ℕ)
-      (number : cheapest combine q ≡ some c) where
+  -- The query that is laid out, all of whose smaller subqueries are filled.
+  module _ (q : Query) (laid : LaidOut q l) (filled : Filled combine q (l .places) (l .work) (all (relationsOf q))) where
     all-is : S ≡ all (relationsOf q)
     all-is = let n : joins + 1 ≡ relationsOf q = omega (arith, joins-are, laid .board .joins, laid .valid .tree .joins) in every ∙ ap all n
 
+    pub known : Known combine q l S
+    known = rw all-is (record { laid = laid; filled = filled; subquery = subqueries-law (q .joins) (relationsOf q) (laid .valid .tree) .whole })
+
+    -- What it costs at the query site, from the row that it starts from.
+    pub whole-figure : q .target ≡ t → (row : List ℕ) (js x : ℕ) (c : Choice) → js ≡ joinsWithin (l .board) S (joinsAt (l .board)) →
+        AtSites (sitesAt (l .board)) row (startIn combine l js S) → x ≡ sizeIn l S → ChoiceOf (siteTrial (λ (i : ℕ). getD row i 0) (l .board) x t) (sitesAt (l .board)) c →
+        c .figure ≡ mark (cheapest combine q)
+    whole-figure to row js x c js-are lanes size chosen =
+        figure-is combine C q l S known row js x t c js-are lanes size (omega (arith, to, laid .valid .target-in, laid .valid .sites-most)) chosen
+        ∙ rw (all-is, ← to)
+
+  -- The same with a way to its query site.
+  module _ (q : Query) (laid : LaidOut q l) (filled : Filled combine q (l .places) (l .work) (all (relationsOf q))) (to : q .target ≡ t) (c : ℕ)
+      (number : cheapest combine q ≡ some c) where
+    whole-is : S ≡ all (relationsOf q)
+    whole-is = all-is q laid filled
+
     start : ToDeliver combine q l S t
-    start =
-        rw (all-is, ← to)
-        (record {
-          known = record { laid = laid; filled = filled; subquery = subqueries-law (q .joins) (relationsOf q) (laid .valid .tree) .whole };
-          listed = laid .valid .target-in;
-          cost = c;
-          cost-is = number;
-        })
+    start = record {
+      known = known q laid filled;
+      listed = rw (← to) (laid .valid .target-in);
+      cost = c;
+      cost-is = rw (whole-is, ← to) number;
+    }
 
     abbrev steps : List ℕ
     steps = stepBytes (writtenSteps combine q)
 
     bytes-are : stepBytes (writtenDelivered combine q S t) ≡ steps
-    bytes-are = rw (all-is, ← to)
+    bytes-are = rw (whole-is, ← to)
 
     most : 1 + length steps ≤ longestPlan
     most = omega (arith, written-most combine C q (laid .valid) c number)
@@ -58,14 +75,14 @@ module _ (combine : ℕ → ℕ → ℕ) (C : Combines combine) (l : Lent) (t jo
   -- What the writer of a plan is asked.
   abbrev Planning : List ℕ → Type 0
   Planning old =
-      (q : Query) × ((LaidOut q l × Filled combine q (l .work) (2 ^ relationsOf q)) × ((q .target ≡ t) × (((c : ℕ) × (cheapest combine q ≡ some c)) × (longestPlan ≤ length old))))
+      (q : Query) × ((LaidOut q l × Filled combine q (l .places) (l .work) (all (relationsOf q))) × ((q .target ≡ t) × (((c : ℕ) × (cheapest combine q ≡ some c)) × (longestPlan ≤ length old))))
 
   pub plan-asked : (old : List ℕ) → Planning old → (q : Query) × (ToDeliver combine q l S t × (1 + length (stepBytes (writtenDelivered combine q S t)) ≤ length old))
   plan-asked old (q, ((laid, filled), (to, ((c, number), room)))) =
       (q, (start q laid filled to c number, rw (bytes-are q laid filled to c number) (omega (arith, most q laid filled to c number))))
 
   module _ (old new : List ℕ) (r : ℕ) (p : Planning old) (w : (q : Query) → ToDeliver combine q l S t → Wrote old 1 (stepBytes (writtenDelivered combine q S t)) r new) where
-    wrote : (q : Query) (laid : LaidOut q l) (filled : Filled combine q (l .work) (2 ^ relationsOf q)) (to : q .target ≡ t) (c : ℕ) (number : cheapest combine q ≡ some c) →
+    wrote : (q : Query) (laid : LaidOut q l) (filled : Filled combine q (l .places) (l .work) (all (relationsOf q))) (to : q .target ≡ t) (c : ℕ) (number : cheapest combine q ≡ some c) →
         Wrote old 1 (stepBytes (writtenSteps combine q)) r new
     wrote q laid filled to c number = rw (bytes-are q laid filled to c number) at (w q (start q laid filled to c number))
 
@@ -78,6 +95,6 @@ module _ (combine : ℕ → ℕ → ℕ) (C : Combines combine) (l : Lent) (t jo
     pub plan-few : Fits w8 ((r - 1) / 2)
     plan-few = record { fits = omega (arith, own .next, most (p .0) (p .1 .0 .0) (p .1 .0 .1) (p .1 .1 .0) (p .1 .1 .1 .0 .0) (p .1 .1 .1 .0 .1)) }
 
-    pub plan-is : (q : Query) → LaidOut q l → Filled combine q (l .work) (2 ^ relationsOf q) → q .target ≡ t → (c : ℕ) → cheapest combine q ≡ some c →
+    pub plan-is : (q : Query) → LaidOut q l → Filled combine q (l .places) (l .work) (all (relationsOf q)) → q .target ≡ t → (c : ℕ) → cheapest combine q ≡ some c →
         (r ≡ length (written combine q)) × (set new 0 ((r - 1) / 2) ≡ written combine q ++ drop (length (written combine q)) old)
     plan-is q laid filled to c number = stored q laid filled to c number old new r (p .1 .1 .1 .1) (wrote q laid filled to c number)

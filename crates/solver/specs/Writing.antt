@@ -6,6 +6,7 @@ use lib.Bits.{bitAnd}
 use lib.Dec.{eqb}
 use lib.ListN.{length}
 use lib.Seq.{sets}
+use Rattle.relations.specs.Sets.{all}
 use Rattle.relations.specs.Trees.{Subquery}
 use Rattle.query.specs.declared.Query.{Query}
 use Rattle.query.specs.Choice.{pick}
@@ -37,7 +38,7 @@ pub record Wrote (old : List ℕ) (at : ℕ) (bytes : List ℕ) (r : ℕ) (new :
 -- What is lent is a query's with its cells filled, and S is a subquery of it.
 pub record Known (combine : ℕ → ℕ → ℕ) (q : Query) (l : Lent) (S : ℕ) : Type 0 where
   pub laid : LaidOut q l
-  pub filled : Filled combine q (l .work) (2 ^ relationsOf q)
+  pub filled : Filled combine q (l .places) (l .work) (all (relationsOf q))
   pub subquery : Subquery (q .joins) (relationsOf q) S
 
 -- S is to be written as it is delivered at t, or as it is joined at k: there is a way.

@@ -1,15 +1,15 @@
 // Solving a query: the cells are filled over its board, and the cheapest plan, its cost and the trials are read off them, or no route.
 mod writing;
 
+use crate::writing::cheapest;
 use crate::writing::write_plan;
 use board::NONE;
 use board::laid_out;
 use filler::fill;
-use filler::place;
 use query::Charge;
 use query::Query;
+use relations::SETS;
 use relations::join_table;
-use relations::whole;
 ghost use Prim.Native.Nat.{_+_, _≤_};
 ghost use mathlib.Core.Path.{_≡_};
 ghost use lib.ListN.{length, drop};
@@ -42,15 +42,14 @@ pub fn solve(q: Query, work: &mut [u64], plan: &mut [u8]) -> Solution
 {
     let board = laid_out(q);
     let table = join_table(q.joins);
-    let joins = fill(&board, &q.sizes, &table, &mut *work);
-    let sites = q.sites.count as u64;
-    let trials = sites * joins;
-    let at = place(whole(q.joins.count + 1), q.target);
-    let cell = work[at];
-    if cell < NONE {
-        let length = write_plan(&board, &q.sizes, &*work, &mut *plan, q.target);
+    let mut places = [0u32; SETS];
+    let tried = fill(&board, &q.sizes, &table, &mut places, &mut *work);
+    let trials = q.sites.count as u64 * (tried + q.joins.count as u64);
+    let figure = cheapest(&board, &q.sizes, &places, &*work, q.target);
+    if figure < NONE {
+        let length = write_plan(&board, &q.sizes, &places, &*work, &mut *plan, q.target);
         return Solution::Found {
-            cost: Charge(cell),
+            cost: Charge(figure),
             length,
             trials,
         };

@@ -10,6 +10,7 @@ use board::sites_of;
 use filler::carriage;
 use filler::joined_row;
 use filler::size_of;
+use filler::start_row;
 use filler::trial;
 use query::Bytes;
 use relations::SETS;
@@ -21,6 +22,7 @@ ghost use Prim.Native.Nat.{ℕ, _+_, _^_, _≤_, _<_};
 ghost use mathlib.Core.Path.{_≡_};
 ghost use mathlib.Core.List.{[], _∷_, _++_};
 ghost use lib.ListN.{length, getD, drop};
+ghost use Rattle.relations.specs.Sets.{all};
 ghost use Rattle.query.specs.declared.Query.{Query};
 ghost use Rattle.query.specs.Choice.{pick};
 ghost use Rattle.query.specs.Query.{relationsOf};
@@ -28,9 +30,9 @@ ghost use Rattle.query.specs.Cost.{some};
 ghost use Rattle.rules.specs.Allowed.{longestPlan};
 ghost use Rattle.tables.specs.Tables.{cheapest};
 ghost use Rattle.tables.specs.Written.{sendIfDue, writtenDelivered, writtenJoined, stepBytes, written};
-ghost use Rattle.board.specs.Figures.{Marked};
-ghost use Rattle.board.specs.Board.{joinsAt};
-ghost use Rattle.filler.specs.Trials.{lent, Carriable, siteIn};
+ghost use Rattle.board.specs.Figures.{mark, ChoiceOf, Marked};
+ghost use Rattle.board.specs.Board.{joinsAt, sitesAt};
+ghost use Rattle.filler.specs.Trials.{lent, Carriable, siteTrial};
 ghost use Rattle.filler.specs.Filling.{LaidOut, Filled};
 ghost use Rattle.solver.specs.Writing.{joinsWithin, Wrote, ToDeliver, ToJoin, siteBy, joinBy};
 
@@ -78,10 +80,10 @@ fn joins_within(board: &[u64; 256], set: usize) -> usize
     found
 }
 
-// The lowest site of the least figure at t, by what a set has cost at each site.
-fn best_site(board: &[u64; 256], row: &[u64; 8], size: Bytes, t: usize) -> usize
+// The least figure at t and its lowest site, by what a set has cost at each site.
+fn best_site(board: &[u64; 256], row: &[u64; 8], size: Bytes, t: usize) -> Choice
     requires { ⌜ Marked (now row) × (Carriable (now board) (size .0) × (t < 8)) ⌝ }
-    ensures { λ r. ⌜ r ≡ siteIn (λ (k : ℕ). getD (now (row .entry)) k 0) (now (board .entry)) (size .0) t ⌝ }
+    ensures { λ r. ⌜ ChoiceOf (siteTrial (λ (k : ℕ). getD (now (row .entry)) k 0) (now (board .entry)) (size .0) t) (sitesAt (now (board .entry))) r ⌝ }
 {
     let sites = sites_of(board);
     let mut best = Choice {
@@ -94,34 +96,56 @@ fn best_site(board: &[u64; 256], row: &[u64; 8], size: Bytes, t: usize) -> usize
         best = better(row[k] + sent.0, k, best);
         k += 1;
     }
-    best.at
+    best
+}
+
+// What the whole query costs at the query site, as a figure. Its cells are nobody's part, so that they are not kept.
+pub(crate) fn cheapest<'a>(
+    board: &'a [u64; 256],
+    sizes: &'a [u32; SETS],
+    places: &'a [u32; SETS],
+    work: &[u64],
+    target: usize,
+) -> u64
+    requires { ⌜ ((q : Query) × ((LaidOut q (lent (now board) (now sizes) (now places) (now work)) × Filled _+_ q (now places) (now work) (all (relationsOf q))) × (q .target ≡ target))) ⌝ }
+    ensures { λ r.
+        ⌜ ((q : Query) → LaidOut q (lent (now (board .entry)) (now (sizes .entry)) (now (places .entry)) (now (work .entry))) →
+        Filled _+_ q (now (places .entry)) (now (work .entry)) (all (relationsOf q)) → q .target ≡ target → r ≡ mark (cheapest _+_ q)) ⌝ }
+{
+    let every = whole(joins_of(board) + 1);
+    let row = start_row(board, sizes, places, work, every, joins_within(board, every));
+    let best = best_site(board, &row, size_of(sizes, every), target);
+    best.figure
 }
 
 // The site where a set is joined for delivery at t.
 fn join_site<'a>(
     board: &'a [u64; 256],
     sizes: &'a [u32; SETS],
+    places: &'a [u32; SETS],
     work: &[u64],
     set: usize,
     t: usize,
 ) -> usize
-    requires { ⌜ ((q : Query) × (ToDeliver _+_ q (lent (now board) (now sizes) (now work)) set t)) ⌝ }
-    ensures { λ r. ⌜ r ≡ siteBy _+_ (lent (now (board .entry)) (now (sizes .entry)) (now (work .entry))) set t ⌝ }
+    requires { ⌜ ((q : Query) × (ToDeliver _+_ q (lent (now board) (now sizes) (now places) (now work)) set t)) ⌝ }
+    ensures { λ r. ⌜ r ≡ siteBy _+_ (lent (now (board .entry)) (now (sizes .entry)) (now (places .entry)) (now (work .entry))) set t ⌝ }
 {
-    let row = joined_row(board, sizes, work, set, joins_within(board, set));
-    best_site(board, &row, size_of(sizes, set), t)
+    let row = joined_row(board, sizes, places, work, set, joins_within(board, set));
+    let best = best_site(board, &row, size_of(sizes, set), t);
+    best.at
 }
 
 // The join that is taken last for a set at site k.
 fn last_join<'a>(
     board: &'a [u64; 256],
     sizes: &'a [u32; SETS],
+    places: &'a [u32; SETS],
     work: &[u64],
     set: usize,
     k: usize,
 ) -> usize
-    requires { ⌜ ((q : Query) × (ToJoin _+_ q (lent (now board) (now sizes) (now work)) set k)) ⌝ }
-    ensures { λ r. ⌜ r ≡ joinBy _+_ (lent (now (board .entry)) (now (sizes .entry)) (now (work .entry))) set k ⌝ }
+    requires { ⌜ ((q : Query) × (ToJoin _+_ q (lent (now board) (now sizes) (now places) (now work)) set k)) ⌝ }
+    ensures { λ r. ⌜ r ≡ joinBy _+_ (lent (now (board .entry)) (now (sizes .entry)) (now (places .entry)) (now (work .entry))) set k ⌝ }
 {
     let joins = joins_within(board, set);
     let mut best = Choice {
@@ -132,7 +156,7 @@ fn last_join<'a>(
     while e < 8 {
         if bit(joins, e) == 1 {
             let part = set & side_at(board, e);
-            best = better(trial(board, sizes, work, part, set - part, k), e, best);
+            best = better(trial(board, sizes, places, work, part, set - part, k), e, best);
             e += 1;
             continue;
         }
@@ -145,15 +169,16 @@ fn last_join<'a>(
 fn write_delivered<'a>(
     board: &'a [u64; 256],
     sizes: &'a [u32; SETS],
+    places: &'a [u32; SETS],
     work: &[u64],
     out: &mut [u8],
     at: usize,
     set: usize,
     t: usize,
 ) -> usize
-    requires { ⌜ ((q : Query) × (ToDeliver _+_ q (lent (now board) (now sizes) (now work)) set t × (at + length (stepBytes (writtenDelivered _+_ q set t)) ≤ length (now out)))) ⌝ }
+    requires { ⌜ ((q : Query) × (ToDeliver _+_ q (lent (now board) (now sizes) (now places) (now work)) set t × (at + length (stepBytes (writtenDelivered _+_ q set t)) ≤ length (now out)))) ⌝ }
     ensures { λ r.
-        ⌜ ((q : Query) → ToDeliver _+_ q (lent (now (board .entry)) (now (sizes .entry)) (now (work .entry))) set t →
+        ⌜ ((q : Query) → ToDeliver _+_ q (lent (now (board .entry)) (now (sizes .entry)) (now (places .entry)) (now (work .entry))) set t →
         Wrote (now (out .entry)) at (stepBytes (writtenDelivered _+_ q set t)) r (now (out .exit))) ⌝ }
 {
     if usize::count_ones(set) == 1 {
@@ -162,8 +187,8 @@ fn write_delivered<'a>(
         let next = put(&mut *out, at, 1, r);
         return put_send(&mut *out, next, home, t);
     }
-    let k = join_site(board, sizes, work, set, t);
-    let next = write_joined(board, sizes, work, &mut *out, at, set, k);
+    let k = join_site(board, sizes, places, work, set, t);
+    let next = write_joined(board, sizes, places, work, &mut *out, at, set, k);
     put_send(&mut *out, next, k, t)
 }
 
@@ -171,22 +196,23 @@ fn write_delivered<'a>(
 fn write_joined<'a>(
     board: &'a [u64; 256],
     sizes: &'a [u32; SETS],
+    places: &'a [u32; SETS],
     work: &[u64],
     out: &mut [u8],
     at: usize,
     set: usize,
     k: usize,
 ) -> usize
-    requires { ⌜ ((q : Query) × (ToJoin _+_ q (lent (now board) (now sizes) (now work)) set k × (at + length (stepBytes (writtenJoined _+_ q set k)) ≤ length (now out)))) ⌝ }
+    requires { ⌜ ((q : Query) × (ToJoin _+_ q (lent (now board) (now sizes) (now places) (now work)) set k × (at + length (stepBytes (writtenJoined _+_ q set k)) ≤ length (now out)))) ⌝ }
     ensures { λ r.
-        ⌜ ((q : Query) → ToJoin _+_ q (lent (now (board .entry)) (now (sizes .entry)) (now (work .entry))) set k →
+        ⌜ ((q : Query) → ToJoin _+_ q (lent (now (board .entry)) (now (sizes .entry)) (now (places .entry)) (now (work .entry))) set k →
         Wrote (now (out .entry)) at (stepBytes (writtenJoined _+_ q set k)) r (now (out .exit))) ⌝ }
 {
-    let e = last_join(board, sizes, work, set, k);
+    let e = last_join(board, sizes, places, work, set, k);
     let part = set & side_at(board, e);
     let rest = set - part;
-    let next = write_delivered(board, sizes, work, &mut *out, at, part, k);
-    let last = write_delivered(board, sizes, work, &mut *out, next, rest, k);
+    let next = write_delivered(board, sizes, places, work, &mut *out, at, part, k);
+    let last = write_delivered(board, sizes, places, work, &mut *out, next, rest, k);
     put(&mut *out, last, 3, e)
 }
 
@@ -194,18 +220,19 @@ fn write_joined<'a>(
 pub(crate) fn write_plan<'a>(
     board: &'a [u64; 256],
     sizes: &'a [u32; SETS],
+    places: &'a [u32; SETS],
     work: &[u64],
     out: &mut [u8],
     target: usize,
 ) -> usize
-    requires { ⌜ ((q : Query) × ((LaidOut q (lent (now board) (now sizes) (now work)) × Filled _+_ q (now work) (2 ^ relationsOf q)) × ((q .target ≡ target) × (((c : ℕ) × (cheapest _+_ q ≡ some c)) × (longestPlan ≤ length (now out)))))) ⌝ }
+    requires { ⌜ ((q : Query) × ((LaidOut q (lent (now board) (now sizes) (now places) (now work)) × Filled _+_ q (now places) (now work) (all (relationsOf q))) × ((q .target ≡ target) × (((c : ℕ) × (cheapest _+_ q ≡ some c)) × (longestPlan ≤ length (now out)))))) ⌝ }
     ensures { λ r.
-        ⌜ ((q : Query) → LaidOut q (lent (now (board .entry)) (now (sizes .entry)) (now (work .entry))) → Filled _+_ q (now (work .entry)) (2 ^ relationsOf q) → q .target ≡ target →
+        ⌜ ((q : Query) → LaidOut q (lent (now (board .entry)) (now (sizes .entry)) (now (places .entry)) (now (work .entry))) → Filled _+_ q (now (places .entry)) (now (work .entry)) (all (relationsOf q)) → q .target ≡ target →
         (c : ℕ) → cheapest _+_ q ≡ some c →
         (r ≡ length (written _+_ q)) × (now (out .exit) ≡ written _+_ q ++ drop (length (written _+_ q)) (now (out .entry)))) ⌝ }
 {
     let every = whole(joins_of(board) + 1);
-    let end = write_delivered(board, sizes, work, &mut *out, 1, every, target);
+    let end = write_delivered(board, sizes, places, work, &mut *out, 1, every, target);
     out[0] = ((end - 1) / 2) as u8;
     end
 }

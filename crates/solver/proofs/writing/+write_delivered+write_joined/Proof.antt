@@ -24,12 +24,12 @@ use Rattle.solver.proofs.writing.put_send.Reads as put-send-reads
 use Rattle.solver.proofs.writing.+write_delivered+write_joined.{statement}
 use Rattle.solver.proofs.writing.+write_delivered+write_joined.Tie.{close}
 
--- The sixth parameter is the set.
+-- The seventh parameter is the set.
 abbrev μ-write-delivered : Measures 3 write-delivered-kinds.ps ℕ
-μ-write-delivered κs a = 2 * ones (a .1 .1 .1 .1 .1 .0) + 1
+μ-write-delivered κs a = 2 * ones (a .1 .1 .1 .1 .1 .1 .0) + 1
 
 abbrev μ-write-joined : Measures 3 write-joined-kinds.ps ℕ
-μ-write-joined κs a = 2 * ones (a .1 .1 .1 .1 .1 .0)
+μ-write-joined κs a = 2 * ones (a .1 .1 .1 .1 .1 .1 .0)
 
 abbrev write-delivered-at : ℕ → In 3 write-delivered-kinds.ps
 write-delivered-at n = and 3 write-delivered-kinds.ps (is 3 write-delivered-kinds.ps μ-write-delivered n) write-delivered.Pre

@@ -11,10 +11,10 @@ use Rattle.solver.proofs.writing.last_join.Statement.{statement}
 use Rattle.solver.proofs.writing.last_join.Tie as tie
 
 abbrev Inv-loop : tie.InvT-loop
-Inv-loop board sizes work set k joins best₀ e₀ best e = (e ≤ 8) × ChoiceOf (joinTrial _+_ (lent board sizes work) joins set k) e best
+Inv-loop board sizes places work set k joins best₀ e₀ best e = (e ≤ 8) × ChoiceOf (joinTrial _+_ (lent board sizes places work) joins set k) e best
 
 abbrev μ-loop : tie.MeasureT-loop
-μ-loop board sizes work set k joins best₀ e₀ best e = 8 - e
+μ-loop board sizes places work set k joins best₀ e₀ best e = 8 - e
 
 pub last-join-spec : {M : Type 1} → statement M
 last-join-spec =
