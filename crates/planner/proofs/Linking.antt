@@ -48,8 +48,13 @@ terms-fair o f r u ranged in-range =
     let b = both-true (leb o 1) (leb f 1_000_000) (a .0) in
     (leb-true _ _ (b .0), leb-true _ _ (b .1), leb-true _ _ (a .1))
 
+-- A link changes neither the joins nor the relations.
 pub link-sound :
-    (p r : Planner) (l : Link) → Sound p → p .loaded ≡ true → l .terms .fixed ≤ 1_000_000 → l .terms .rate ≤ 1_000 → r .query ≡ relinedBy (p .query) l → Sound r
-link-sound p r l s e f g m = record { valid = λ _. rw m (linked-valid (p .query) (s .valid e) (l .sender) (l .receiver) (l .terms) f g) }
+    (p r : Planner) (l : Link) → Sound p → p .loaded ≡ true → l .terms .fixed ≤ 1_000_000 → l .terms .rate ≤ 1_000 → r .query ≡ relinedBy (p .query) l →
+    r .subqueries ≡ p .subqueries → Sound r
+link-sound p r l s e f g m same = record {
+  valid = λ _. rw m (linked-valid (p .query) (s .valid e) (l .sender) (l .receiver) (l .terms) f g);
+  counted = λ _. rw (same, m) (s .counted e);
+}
 
 pub ruleset linking = (not-true, not-false, link-nothing, link-unlisted, link-out, link-goes, link-sound)

@@ -6,7 +6,9 @@ use mathlib.Core.Path.{_≡_, refl}
 use mathlib.Core.Bool.{true}
 use mathlib.Core.Option.{some}
 use native.Mathlib.Omega.{arith}
+use Rattle.relations.specs.Trees.{subqueries}
 use Rattle.query.specs.declared.Query.{Query}
+use Rattle.query.specs.Query.{relationsOf}
 use Rattle.decoder.specs.declared.Form.{Form}
 use Rattle.decoder.specs.declared.sections.Outcome.{Outcome}
 use Rattle.decoder.specs.declared.decoding.Decoded.{Decoded}
@@ -33,19 +35,26 @@ whole-load :
 whole-load (fields.refused j) s e = absurd (let z : _≡_ {A = ℕ} 0 1 = cc in omega arith)
 whole-load (value q l) s e = refl
 
+whole-counted : (x : Read Query) → decodedOf x .outcome ≡ Outcome.Whole → decodedOf x .subqueries ≡ subqueries (decodedOf x .query .joins) (relationsOf (decodedOf x .query))
+whole-counted (fields.refused j) e = absurd (let z : _≡_ {A = ℕ} 0 1 = cc in omega arith)
+whole-counted (value q l) e = refl
+
 module _ (p : Planner) (f : Form) (file : List ℕ) (d : Decoded) (decoded : d ≡ decodedOf (decode f file)) where
   pub load-refused : (k : ℕ) → d .outcome ≡ Outcome.Refused k → doneOf (refused k) p ≡ loadBy f file (stateOf p)
   unfolding loadBy
   load-refused k e = refused-load (decode f file) (stateOf p) k (rw decoded at e)
 
-  -- The planner after an admitted load: the query stands.
+  -- The planner after an admitted load: the query stands, with its subqueries counted.
   module _ (r : Planner) (whole : d .outcome ≡ Outcome.Whole) (r-query : r .query ≡ d .query) where
     pub load-goes : r .loaded ≡ true → doneOf (loaded (d .query .relations .count) (d .subqueries)) r ≡ loadBy f file (stateOf p)
     unfolding loadBy
     load-goes h = rw (h, r-query, decoded) (whole-load (decode f file) (stateOf p) (rw decoded at whole))
 
-    pub load-sound : Sound r
-    load-sound = record { valid = λ _. rw r-query (decoded-valid f file d decoded whole) }
+    pub load-sound : r .subqueries ≡ d .subqueries → Sound r
+    load-sound e = record {
+      valid = λ _. rw r-query (decoded-valid f file d decoded whole);
+      counted = λ _. rw (e, r-query, decoded) (whole-counted (decode f file) (rw decoded at whole));
+    }
 
 pub ruleset loading = (load-refused, load-goes, load-sound)
 

@@ -2,8 +2,9 @@
 use mathlib.Core.Path.{_≡_}
 use mathlib.Core.Bool.{true}
 use mathlib.Core.Option.{none, some}
+use Rattle.relations.specs.Trees.{subqueries}
 use Rattle.query.specs.Choice.{pick}
-use Rattle.query.specs.Query.{Valid}
+use Rattle.query.specs.Query.{Valid, relationsOf}
 use Rattle.planner.specs.declared.Planner.{Planner}
 use Rattle.planner.specs.declared.LoadAnswer.{LoadAnswer}
 use Rattle.planner.specs.declared.LinkAnswer.{LinkAnswer}
@@ -42,6 +43,8 @@ abbrev pub ofCheck : CheckAnswer → Check.Answer
 ofCheck (CheckAnswer.Accepted c) = Check.allowed (c .0)
 ofCheck (CheckAnswer.Refused k place) = Check.refused k place
 
--- What holds of every planner that the calls make: a standing query is valid. Every list of calls gives such a planner: `Runs` and its laws.
+-- What holds of every planner that the calls make: a standing query is valid, and its subqueries are counted. Every list of calls gives such a planner:
+-- `Runs` and its laws.
 pub record Sound (p : Planner) : Type 0 where
   pub valid : p .loaded ≡ true → Valid (p .query)
+  pub counted : p .loaded ≡ true → p .subqueries ≡ subqueries (p .query .joins) (relationsOf (p .query))

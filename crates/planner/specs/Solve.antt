@@ -1,7 +1,7 @@
 -- Solve, with a lent work area of so many cells and a lent output: writes the cheapest plan at the front of the output, the rest stays, and
 -- answers its cost, its length and the trials; or answers no route with the trials. The state stays. Refusals 20, 21, and 23 once a plan is
 -- found.
-use Prim.Native.Nat.{ℕ, _+_}
+use Prim.Native.Nat.{ℕ, _+_, _≤_, _<_}
 use mathlib.Core.Path.{_≡_}
 use mathlib.Core.Logic.{_↔_}
 use mathlib.Core.Bool.{Bool, true, false, _&&_}
@@ -11,6 +11,7 @@ use lib.ListN.{length, drop, replicate}
 use lib.Dec.{ltb, leb}
 use Rattle.query.specs.declared.Query.{Query}
 use Rattle.query.specs.Choice.{pick}
+use Rattle.query.specs.Query.{Valid}
 use Rattle.query.specs.Cost.{Cost}
 use Rattle.rules.specs.Allowed.{longestPlan}
 use Rattle.tables.specs.Tables.{cheapest, trials}
@@ -67,13 +68,21 @@ solveAdmitted (some q) cells bytes = leb (cellsNeeded q) cells && hasRoom q (che
 abbrev pub AdmittedLaw : Type 0
 AdmittedLaw = (cells : ℕ) (out : List ℕ) (s : State) → (solveAdmitted s cells (length out) ≡ true) ↔ ((k : ℕ) → solve cells out s .answer ≡ refused k → ⊥)
 
--- Solve with as many cells as it needs.
+-- How many cells it needs for what stands, and solve with just so many.
 abbrev pub needed : State → ℕ
 needed none = 0
 needed (some q) = cellsNeeded q
 
 abbrev pub solveNeeded : List ℕ → State → Solving
 solveNeeded out s = solve (needed s) out s
+
+-- How many cells are lent beyond the need does not show: the answer and the output are those of 4,096 cells, which are enough for every query, ties
+-- included. Solve refuses 21 with fewer than the need, whatever the output, and never with as many.
+pub record EnoughLaw : Type 0 where
+  pub beyond : (n : ℕ) (out : List ℕ) (s : State) → needed s ≤ n → solve n out s ≡ solve (needed s) out s
+  pub as-of-all : (out : List ℕ) (q : Query) → Valid q → solve (needed (some q)) out (some q) ≡ solve 4_096 out (some q)
+  pub fewer : (n : ℕ) (out : List ℕ) (q : Query) → n < needed (some q) → solve n out (some q) ≡ solvingOf (refused 21) out
+  pub as-many : (n : ℕ) (out : List ℕ) (s : State) → needed s ≤ n → solve n out s .answer ≡ refused 21 → ⊥
 
 -- An output of zeros, with room for the longest plan.
 abbrev pub blank : List ℕ

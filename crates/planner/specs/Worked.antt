@@ -72,34 +72,35 @@ pub record Worked : Type 0 where
   pub q-decoded : decode form.Sizes qBytes ≡ value Q []
   -- Q's file is the ordinary one of what comes of its row counts.
   pub q-ordinary : ordinary Q qRows ≡ qBytes
-  -- From an empty planner: load, from row counts too; solve into 12 bytes, whose rest stays, and into 9, which are just enough; check.
+  -- From an empty planner: load, from row counts too; solve in 9 cells, which are just enough, into 12 bytes, whose rest stays, and in more cells into 9
+  -- bytes, which are just enough; check.
   pub load-q : Load.load qBytes none ≡ doneWith (Load.loaded 2 3) (some Q)
   pub load-rows-q : Load.loadRows qRows none ≡ doneWith (Load.loaded 2 3) (some Q)
-  pub solve-q : Solve.solve 4_096 (replicate 12 7) (some Q) ≡ solvingOf (Solve.found 21 9 3) (qPlan ++ (7 ∷ 7 ∷ 7 ∷ []))
+  pub solve-q : Solve.solve 9 (replicate 12 7) (some Q) ≡ solvingOf (Solve.found 21 9 3) (qPlan ++ (7 ∷ 7 ∷ 7 ∷ []))
   pub solve-q-just : Solve.solve 5_000 (replicate 9 7) (some Q) ≡ solvingOf (Solve.found 21 9 3) qPlan
   pub check-q : Check.check qPlan (some Q) ≡ Check.allowed 21
   -- The line from 1 to 0 is closed: the plan is no longer allowed, and solve writes row 5's over it.
   pub link-row5 : Link.link (linkOf 1 0 0 1 1) (some Q) ≡ doneWith Link.linked (some row5)
   pub check-row5 : Check.check qPlan (some row5) ≡ Check.refused 10 2
-  pub solve-row5 : Solve.solve 4_096 (qPlan ++ replicate 4 7) (some row5) ≡ solvingOf (Solve.found 26 13 3) row5Plan
+  pub solve-row5 : Solve.solve 9 (qPlan ++ replicate 4 7) (some row5) ≡ solvingOf (Solve.found 26 13 3) row5Plan
   -- The line from 2 to 0 is closed too: no route, whatever the output's length. Or Q is loaded again.
   pub link-row6 : Link.link (linkOf 2 0 0 1 1) (some row5) ≡ doneWith Link.linked (some row6)
-  pub solve-row6 : Solve.solve 4_096 row5Plan (some row6) ≡ solvingOf (Solve.noRoute 3) row5Plan
-  pub solve-row6-short : Solve.solve 4_096 [] (some row6) ≡ solvingOf (Solve.noRoute 3) []
+  pub solve-row6 : Solve.solve 9 row5Plan (some row6) ≡ solvingOf (Solve.noRoute 3) row5Plan
+  pub solve-row6-short : Solve.solve 9 [] (some row6) ≡ solvingOf (Solve.noRoute 3) []
   pub load-again : Load.load qBytes (some row5) ≡ doneWith (Load.loaded 2 3) (some Q)
   -- Refused by the state, which comes before the input: nothing loaded.
   pub link-20 : Link.link (linkOf 3 3 2 0 0) none ≡ doneWith (Link.refused 20) none
   pub solve-20 : Solve.solve 0 (7 ∷ []) none ≡ solvingOf (Solve.refused 20) (7 ∷ [])
   pub check-20 : Check.check [] none ≡ Check.refused 20 0
   -- Solve: one cell too few, before the output is looked at and before no route; one byte too few.
-  pub solve-21 : Solve.solve 4_095 (replicate 8 7) (some Q) ≡ solvingOf (Solve.refused 21) (replicate 8 7)
-  pub solve-21-row6 : Solve.solve 4_095 [] (some row6) ≡ solvingOf (Solve.refused 21) []
-  pub solve-23 : Solve.solve 4_096 (replicate 8 7) (some Q) ≡ solvingOf (Solve.refused 23) (replicate 8 7)
-  pub solve-23-none : Solve.solve 4_096 [] (some Q) ≡ solvingOf (Solve.refused 23) []
-  -- The cells that solve uses: none on 20 and 21, else 4,096 of however many.
+  pub solve-21 : Solve.solve 8 (replicate 8 7) (some Q) ≡ solvingOf (Solve.refused 21) (replicate 8 7)
+  pub solve-21-row6 : Solve.solve 8 [] (some row6) ≡ solvingOf (Solve.refused 21) []
+  pub solve-23 : Solve.solve 9 (replicate 8 7) (some Q) ≡ solvingOf (Solve.refused 23) (replicate 8 7)
+  pub solve-23-none : Solve.solve 9 [] (some Q) ≡ solvingOf (Solve.refused 23) []
+  -- The cells that solve uses: none on 20 and 21, else one for each of 3 subqueries and 3 sites, of however many.
   pub used-20 : Solve.used none 5_000 ≡ 0
-  pub used-21 : Solve.used (some Q) 4_095 ≡ 0
-  pub used-q : Solve.used (some Q) 5_000 ≡ 4_096
+  pub used-21 : Solve.used (some Q) 8 ≡ 0
+  pub used-q : Solve.used (some Q) 5_000 ≡ 9
   -- Load: the last byte is cut; nine sites; a may-join flag of 2; join 0 links 0 with itself; a byte follows.
   pub load-1 : Load.load (take 106 qBytes) (some Q) ≡ doneWith (Load.refused 1) (some Q)
   pub load-2 : Load.load (set qBytes 0 9) (some Q) ≡ doneWith (Load.refused 2) (some Q)

@@ -1,6 +1,5 @@
 // The calls but for the loads. The state goes in by value; link, which may change it, hands it back, and a refusal hands back what came in.
 use crate::AfterLink;
-use crate::CELLS;
 use crate::CheckAnswer;
 use crate::LONGEST_PLAN;
 use crate::LinkAnswer;
@@ -16,7 +15,7 @@ ghost use mathlib.Core.Path.{_≡_};
 ghost use mathlib.Core.Option.{none};
 ghost use lib.ListN.{length, drop};
 ghost use Rattle.planner.specs.Link.{link, linkOf, sitesListed, termsInRange, relinedBy};
-ghost use Rattle.planner.specs.Solve.{solvingOf, solve, used};
+ghost use Rattle.planner.specs.Solve.{solvingOf, solve, used, needed};
 ghost use Rattle.planner.specs.Check.{check};
 ghost use Rattle.planner.specs.Contracts.{stateOf, doneOf, ofLink, ofSolve, ofCheck, Sound};
 
@@ -27,6 +26,7 @@ pub fn empty() -> Planner
     Planner {
         loaded: false,
         query: query::no_query(),
+        subqueries: 0,
     }
 }
 
@@ -92,6 +92,17 @@ pub fn link(p: Planner, sender: u64, receiver: u64, opened: u64, fixed: u64, rat
     }
 }
 
+// How many cells solve needs: one for each subquery and site of the standing query, none where nothing stands.
+pub fn cells_needed(p: Planner) -> usize
+    requires { ⌜ Sound p ⌝ }
+    ensures { λ r. ⌜ r ≡ needed (stateOf p) ⌝ }
+{
+    if !p.loaded {
+        return 0;
+    }
+    p.subqueries * p.query.sites.count
+}
+
 // Solve: writes the cheapest plan at the front of the output and answers its cost, its length and the trials, or answers no route with the
 // trials. The plan is first written into an array of its own, so that no byte of the output is touched before it is known that it fits.
 // Of the cells those past the used ones are said to stay.
@@ -104,7 +115,7 @@ pub fn solve(p: Planner, cells: &mut [u64], output: &mut [u8]) -> SolveAnswer
     if !p.loaded {
         return SolveAnswer::Refused(20);
     }
-    if cells.len() < CELLS {
+    if cells.len() < cells_needed(p) {
         return SolveAnswer::Refused(21);
     }
     let mut plan = [0u8; LONGEST_PLAN];

@@ -2,6 +2,7 @@
 mod calls;
 mod loads;
 
+pub use calls::cells_needed;
 pub use calls::check;
 pub use calls::empty;
 pub use calls::link;
@@ -12,14 +13,16 @@ use query::Charge;
 use query::Query;
 pub use rules::LONGEST_PLAN;
 
-// The cells that solve needs, whatever the query (`cellsNeeded`).
-pub const CELLS: usize = 4096;
+// The most cells that solve ever needs (`mostCells`).
+pub const CELLS: usize = 2112;
 
 // The standing state. Its fields are private, so that only the calls make one.
 pub struct Planner {
     // Whether a query stands, and the query.
     loaded: bool,
     query: Query,
+    // How many subqueries it has, as the load counted them: solve has to know how many cells it needs before it touches one.
+    subqueries: usize,
 }
 
 // What a load answers: the number of relations and of subqueries, or the refusal's number.

@@ -49,6 +49,7 @@ fn load_by(p: Planner, form: Form, file: &[u8]) -> AfterLoad
                 planner: Planner {
                     loaded: true,
                     query: q,
+                    subqueries: d.subqueries,
                 },
             }
         }

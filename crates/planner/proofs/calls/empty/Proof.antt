@@ -11,4 +11,10 @@ empty-spec =
     tie.close
     (tie.spec
     (λ c κs. search needs)
-    (λ c. (refl, record { valid = λ f. absurd (let z : _≡_ {A = ℕ} 0 1 = cc in omega arith) })))
+    (λ c. (
+      refl,
+      record {
+        valid = λ f. absurd (let z : _≡_ {A = ℕ} 0 1 = cc in omega arith);
+        counted = λ f. absurd (let z : _≡_ {A = ℕ} 0 1 = cc in omega arith);
+      },
+    )))

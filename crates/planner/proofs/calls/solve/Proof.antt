@@ -12,6 +12,8 @@ solve-spec =
     (tie.spec
     -- 20
     (λ c. (search (needs, solving), refl))
+    -- the need
+    (λ c κs. search needs)
     -- 21
     (λ c. (search (needs, solving), refl))
     -- the solver
