@@ -19,7 +19,7 @@ extern "C" {
 #define FANCHUKI_LONGEST_QUERY 1674
 #define FANCHUKI_LONGEST_PLAN 69
 
-/* The stack that the call needs, in bytes, its work area of 32 KB among them. Measured, not proved: tests/c/stack.c measures
+/* The stack that the call needs, in bytes, its work area of 17 KB among them. Measured, not proved: tests/c/stack.c measures
  * it and holds this figure to it from both sides. A program that binds memcpy and memset at their first call (linked without
  * -z now) needs some kilobytes more that once, for the dynamic linker. */
 #define FANCHUKI_STACK 57344
@@ -56,7 +56,7 @@ enum fanchuki_refusal {
     FANCHUKI_JOIN_NOT_ALLOWED = 11, /* join not allowed, or fewer than two held */
     FANCHUKI_WRONG_END = 12,        /* not one result with every relation at the query site */
     FANCHUKI_NOTHING_LOADED = 20,   /* nothing loaded */
-    FANCHUKI_FEW_CELLS = 21         /* work area below 4,096 cells */
+    FANCHUKI_FEW_CELLS = 21         /* the work area has fewer cells than the query has subqueries times sites */
 };
 
 /* Loads the query file, solves it and writes the cheapest plan to the front of the output.

@@ -28,7 +28,7 @@ use Rattle.planner.specs.Solve.{found, noRoute, Solving, solvingOf, solved, sol
 use Rattle.planner.specs.Solve as Solve
 use Rattle.planner.specs.Contracts.{stateOf, doneOf, ofLoad, ofSolve}
 use Rattle.planner.proofs.Cells.{needed-enough, solve-enough}
-use Rattle.fanchuki.specs.Served.{served, onSolved, serve}
+use Rattle.fanchuki.specs.Served.{served, onSolved, onStanding, serve}
 
 -- A refusal is a number of a byte. Solve is the last call: the number of its refusal, 0 where there is none.
 abbrev solveRefusal : Solve.Answer → ℕ
@@ -73,22 +73,24 @@ module _ (a : LoadAnswer) (p first : Planner) (query : List ℕ) (empty : stateO
   unfolding serve
   load-refused k r out is e = rw (← empty, ← done, is, e)
 
-  -- Solve's, on the query that was loaded, with as many cells as are needed.
-  module _
-      (n m cells : ℕ) (b : SolveAnswer) (new out : List ℕ) (loads : a ≡ LoadAnswer.Loaded n m) (solving : solvingOf (ofSolve b) new ≡ solve cells out (stateOf p))
-      (enough : needed (stateOf p) ≤ cells)
-    where
-      by-solve : served (onSolved (ofSolve b)) new ≡ serve query out
-      unfolding serve
-      by-solve = rw (← empty, ← done, loads, ← solve-enough cells out (stateOf p) enough, ← solving)
+  pub load-goes : (n m r : ℕ) (new out : List ℕ) → a ≡ LoadAnswer.Loaded n m → served r new ≡ onStanding (stateOf p) out → served r new ≡ serve query out
+  unfolding serve
+  load-goes n m r new out is e = rw (← empty, ← done, is) e
 
-      pub solve-found : (c : Charge) (l t : ℕ) → b ≡ SolveAnswer.Found c l t → served l new ≡ serve query out
-      solve-found c l t is = rw is at by-solve
+-- Solve's answer, over cells enough.
+module _
+    (s : State) (cells : ℕ) (b : SolveAnswer) (new out : List ℕ) (solving : solvingOf (ofSolve b) new ≡ solve cells out s) (enough : needed s ≤ cells)
+  where
+    by-solve : served (onSolved (ofSolve b)) new ≡ onStanding s out
+    by-solve = rw (← solve-enough cells out s enough, ← solving)
 
-      pub solve-none : (t : ℕ) → b ≡ SolveAnswer.NoRoute t → served 0 new ≡ serve query out
-      solve-none t is = rw is at by-solve
+    pub solve-found : (c : Charge) (l t : ℕ) → b ≡ SolveAnswer.Found c l t → served l new ≡ onStanding s out
+    solve-found c l t is = rw is at by-solve
 
-      pub solve-refused : (k r : ℕ) → b ≡ SolveAnswer.Refused k → r ≡ 256 + k → served r new ≡ serve query out
-      solve-refused k r is e = rw e (rw is at by-solve)
+    pub solve-none : (t : ℕ) → b ≡ SolveAnswer.NoRoute t → served 0 new ≡ onStanding s out
+    solve-none t is = rw is at by-solve
 
-pub ruleset serving = (load-byte, load-refused, solve-byte, solve-found, solve-none, solve-refused, needed-enough)
+    pub solve-refused : (k r : ℕ) → b ≡ SolveAnswer.Refused k → r ≡ 256 + k → served r new ≡ onStanding s out
+    solve-refused k r is e = rw e (rw is at by-solve)
+
+pub ruleset serving = (load-byte, load-refused, load-goes, solve-byte, solve-found, solve-none, solve-refused, needed-enough)

@@ -27,9 +27,13 @@ onSolved (Solve.found c l t) = l
 onSolved (Solve.noRoute t) = 0
 onSolved (Solve.refused k) = refusal k
 
--- A query that was loaded is solved, with as many cells as it needs; a refusal ends the call, and the output stays.
+-- What stands is solved with as many cells as it needs.
+abbrev pub onStanding : State → List ℕ → Served
+onStanding s out = served (onSolved (Solve.solveNeeded out s .answer)) (Solve.solveNeeded out s .output)
+
+-- A query that was loaded is solved; a refusal ends the call, and the output stays.
 abbrev pub onLoaded : Load.Answer → State → List ℕ → Served
-onLoaded (Load.loaded n m) s out = served (onSolved (Solve.solveNeeded out s .answer)) (Solve.solveNeeded out s .output)
+onLoaded (Load.loaded n m) s out = onStanding s out
 onLoaded (Load.refused k) s out = served (refusal k) out
 
 -- The call: on an empty planner.
