@@ -11,7 +11,7 @@ use Rattle.planner.specs.declared.SolveAnswer.{SolveAnswer}
 use Rattle.planner.specs.State.{State}
 use Rattle.planner.specs.Load.{load}
 use Rattle.planner.specs.Solve.{Answer, found, noRoute, refused, Solving, solvingOf, solve, blank}
-use Rattle.planner.specs.Contracts.{stateOf, doneOf, ofLoad, ofSolve}
+use Rattle.planner.specs.Contracts.{stateOf, doneOf, ofLoad, ofSolve, Sound}
 use Rattle.planner.proofs.Cells.{ampleCells, needed-enough, solve-enough}
 use Rattle.planner.proofs.Again.{solve-again}
 use Rattle.timed.specs.Found.{foundBy, answerIn, plansFound}
@@ -31,15 +31,17 @@ counted-none s = none-at-first (answerIn s)
 
 -- A turn, over cells enough and an output with room for the longest plan.
 module _
-    (s : State) (a : SolveAnswer) (n : ℕ) (out new : List ℕ) (solving : solvingOf (ofSolve a) new ≡ solve n out s) (many : n ≡ ampleCells)
-    (room : length out ≡ length blank)
+    (p : Planner) (sound : Sound p) (a : SolveAnswer) (n : ℕ) (out new : List ℕ) (solving : solvingOf (ofSolve a) new ≡ solve n out (stateOf p))
+    (many : n ≡ ampleCells) (room : length out ≡ length blank)
   where
-    as-defined : ofSolve a ≡ answerIn s
+    as-defined : ofSolve a ≡ answerIn (stateOf p)
     as-defined =
-        ap (λ (x : Solving). x .answer) solving ∙ solve-again out blank room n s ∙ ap (λ (x : Solving). x .answer) (solve-enough n blank s (needed-enough s n (omega arith)))
+        ap (λ (x : Solving). x .answer) solving ∙ solve-again out blank room n (stateOf p)
+        ∙ ap (λ (x : Solving). x .answer) (solve-enough n blank (stateOf p) (needed-enough p sound n (omega arith)))
 
-    pub counted-more : (count r i : ℕ) → count ≡ foundBy (answerIn s) i → r ≡ foundBy (ofSolve a) 1 → count + r ≡ foundBy (answerIn s) (i + 1)
-    counted-more count r i counted one = rw (counted, one, as-defined) (one-more (answerIn s) i)
+    pub counted-more :
+        (count r i : ℕ) → count ≡ foundBy (answerIn (stateOf p)) i → r ≡ foundBy (ofSolve a) 1 → count + r ≡ foundBy (answerIn (stateOf p)) (i + 1)
+    counted-more count r i counted one = rw (counted, one, as-defined) (one-more (answerIn (stateOf p)) i)
 
 -- All turns are done.
 pub counted-all : (a : Answer) (count i times : ℕ) → count ≡ foundBy a i → i ≤ times → times ≤ i → count ≡ foundBy a times
