@@ -7,7 +7,6 @@ use crate::printing::line_three;
 use crate::printing::line_two;
 use crate::printing::number;
 use crate::printing::text;
-use planner::CELLS;
 use planner::CheckAnswer;
 use planner::LinkAnswer;
 use planner::LoadAnswer;
@@ -56,8 +55,8 @@ fn say_solved(cost: u64, length: u64, trials: u64, output: &[u8; 4096], m: usize
 }
 
 // The first cell that must be unchanged after a refusal: all stay on 20 and 21, and those past the needed ones on 23.
-fn first_kept(refusal: u64) -> usize {
-    if refusal == 23 { CELLS } else { 0 }
+fn first_kept(refusal: u64, needed: usize) -> usize {
+    if refusal == 23 { needed } else { 0 }
 }
 
 // Nothing was written to the output, and the cells from one on stay.
@@ -67,8 +66,10 @@ fn say_unwritten(cells: &[u64; 8192], from: usize, n: usize, output: &[u8; 4096]
     say_kept(b"cells", cells_kept(cells, from, n)) && say_kept(b"output", output_kept(output, m))
 }
 
+// Solve's answer, and whether those of the n cells and m bytes stayed that must: without a refusal the cells past the needed ones.
 pub(crate) fn of_solve(
     a: SolveAnswer,
+    needed: usize,
     cells: &[u64; 8192],
     n: usize,
     output: &[u8; 4096],
@@ -83,13 +84,13 @@ pub(crate) fn of_solve(
             trials,
         } => {
             say_solved(cost.0, length, trials, output, m)
-                && say_kept(b"cells", cells_kept(cells, CELLS, n))
+                && say_kept(b"cells", cells_kept(cells, needed, n))
         }
         SolveAnswer::NoRoute { trials } => {
-            line(b"no-route ", trials) && say_unwritten(cells, CELLS, n, output, m)
+            line(b"no-route ", trials) && say_unwritten(cells, needed, n, output, m)
         }
         SolveAnswer::Refused(k) => {
-            line(b"refused ", k) && say_unwritten(cells, first_kept(k), n, output, m)
+            line(b"refused ", k) && say_unwritten(cells, first_kept(k, needed), n, output, m)
         }
     }
 }

@@ -140,7 +140,8 @@ fn solve(p: Planner) -> After
         lent::front_cells(&mut cells, n),
         lent::front_output(&mut output, m),
     );
-    answered(p, answers::of_solve(a, &cells, n, &output, m))
+    let needed = planner::cells_needed(p);
+    answered(p, answers::of_solve(a, needed, &cells, n, &output, m))
 }
 
 // 8 room: n and s as two u64, u16 length, join bytes. It takes no planner, so that the run goes on with the one that stands.
