@@ -1,9 +1,9 @@
 //! The lines that the program `calls` prints, by the model, and the areas that it lends.
 
 use crate::hex::hex;
-use crate::limits::WORK_CELLS;
 use crate::method::Method;
 use crate::planner::{Loaded, Planner, Solved};
+use crate::query::Query;
 use crate::refusal::Refusal;
 use crate::room::{self, Figures};
 use crate::script::Call;
@@ -27,9 +27,7 @@ impl Call {
                 Ok(()) => "link".to_string(),
                 Err(refusal) => refused(refusal),
             }],
-            Call::Solve { cells, output } => {
-                solve_lines(*cells, *output, |work, output| planner.solve(work, output))
-            }
+            Call::Solve { cells, output } => solve_lines(planner, *cells, *output, Planner::solve),
             Call::Check { plan } => vec![match planner.check(plan) {
                 Ok(cost) => format!("check {}", cost.0),
                 Err(refusal) => refused(refusal),
@@ -65,19 +63,20 @@ pub fn lent_byte(place: usize) -> u8 {
 }
 
 /// The lines of a solve, which is lent areas of these lengths: its answer, and what became
-/// of the cells and of an output that no plan was written to.
+/// of the cells from the need on and of an output that no plan was written to.
 pub fn solve_lines(
+    planner: &Planner,
     cells: u32,
     output: u32,
-    solve: impl FnOnce(&mut [u64], &mut [u8]) -> Result<Solved, Refusal>,
+    solve: impl FnOnce(&Planner, &mut [u64], &mut [u8]) -> Result<Solved, Refusal>,
 ) -> Vec<String> {
     let cells: Vec<u64> = (0..cells.min(MOST_CELLS_LENT) as usize).map(lent_cell).collect();
     let output: Vec<u8> = (0..output.min(MOST_OUTPUT_LENT) as usize).map(lent_byte).collect();
     let (mut work, mut written) = (cells.clone(), output.clone());
-    let answer = solve(&mut work, &mut written);
+    let answer = solve(planner, &mut work, &mut written);
     let free = match answer {
         Err(Refusal::NothingLoaded | Refusal::FewCells) => 0,
-        _ => WORK_CELLS,
+        _ => planner.query().map_or(0, Query::cells_needed),
     };
     let cells_same = work.iter().skip(free).eq(cells.iter().skip(free));
     let cells_line = format!("cells {}", ok_or_changed(cells_same));

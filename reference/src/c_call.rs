@@ -1,6 +1,6 @@
 //! The call for the report server: load and solve on a planner of its own.
 
-use crate::limits::WORK_CELLS;
+use crate::limits::MOST_CELLS;
 use crate::method::Method;
 use crate::planner::{Planner, Solved};
 use crate::refusal::Refusal;
@@ -19,5 +19,5 @@ pub fn fanchuki_plan(query: &[u8], output: &mut [u8]) -> u64 {
 fn load_and_solve(query: &[u8], output: &mut [u8]) -> Result<Solved, Refusal> {
     let mut planner = Planner::empty(Method::Rules);
     planner.load(query, Form::Sizes)?;
-    planner.solve(&mut vec![0; WORK_CELLS], output)
+    planner.solve(&mut vec![0; MOST_CELLS], output)
 }

@@ -14,7 +14,7 @@ pub const MOST_STEPS: usize = 34;
 /// The bytes of a plan with so many steps.
 pub const LONGEST_PLAN: usize = 1 + 2 * MOST_STEPS;
 pub const LONGEST_FILE: usize = 1_674;
-/// Cells that solve needs, and the only ones that it may write.
-pub const WORK_CELLS: usize = 4_096;
+/// The most cells that solve ever needs: 264 subqueries at eight sites.
+pub const MOST_CELLS: usize = 2_112;
 /// No allowed plan costs more.
 pub const DEAREST_PLAN: u64 = 26_125_025_000_000;

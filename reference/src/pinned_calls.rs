@@ -3,7 +3,7 @@
 //! with its place; sizes at and beside full parcels.
 
 use crate::encode::encode;
-use crate::limits::{LONGEST_PLAN, MOST_FIXED, MOST_RATE, MOST_SIZE, WORK_CELLS};
+use crate::limits::{LONGEST_PLAN, MOST_CELLS, MOST_FIXED, MOST_RATE, MOST_SIZE};
 use crate::pinned;
 use crate::planner::Link;
 use crate::query::{Line, Query, Relation, Site};
@@ -26,7 +26,7 @@ pub fn lists() -> Vec<Vec<Call>> {
 }
 
 /// Enough cells for every query, and an output that every plan fits.
-pub const SOLVE: Call = Call::Solve { cells: WORK_CELLS as u32, output: LONGEST_PLAN as u32 };
+pub const SOLVE: Call = Call::Solve { cells: MOST_CELLS as u32, output: LONGEST_PLAN as u32 };
 
 pub fn load(query: &Query) -> Call {
     load_file(encode(query))
@@ -71,22 +71,22 @@ fn refusals_leave_the_query() -> Vec<Call> {
     let file = encode(&q);
     vec![
         load(&q),
-        solve(4_095, 9),
-        solve(4_097, 9),
+        solve(8, 9),
+        solve(10, 9),
         load_file(file[..106].to_vec()),
         load_file([file.clone(), vec![0]].concat()),
-        solve(4_096, 9),
+        solve(9, 9),
         solve(0, 9),
         link(1, 1, 1, 1, 1),
         link(0, 1, 2, 1, 1),
-        solve(4_096, 10),
-        solve(4_096, 8),
+        solve(9, 10),
+        solve(9, 8),
         link(0, 1, 1, 1, 1),
         solve(4_096, 9),
         solve(8_192, 4_096),
         solve(u32::MAX, u32::MAX),
         load(&q),
-        solve(4_096, 9),
+        solve(9, 9),
     ]
 }
 
@@ -134,15 +134,15 @@ fn links() -> Vec<Call> {
 fn no_route() -> Vec<Call> {
     vec![
         load(&pinned::q()),
-        solve(4_096, 9),
+        solve(9, 9),
         link(1, 0, 0, 1, 1),
         solve(4_096, 13),
         link(2, 0, 0, 1, 1),
         solve(8_192, 69),
-        solve(4_096, 0),
+        solve(9, 0),
         check(&[4, 1, 0, 1, 1, 2, 0, 3, 0]),
         link(2, 0, 1, 1, 1),
-        solve(4_096, 13),
+        solve(9, 13),
     ]
 }
 
@@ -202,13 +202,14 @@ fn checks() -> Vec<Call> {
     calls
 }
 
-/// One relation at one site: no joins, no lines, no sends, trials 0.
+/// One relation at one site: no joins, no lines, no sends, trials 0, and one cell.
 fn alone() -> Vec<Call> {
     let query = pinned::alone();
     vec![
         load(&query),
-        solve(4_096, 3),
-        solve(4_096, 2),
+        solve(0, 3),
+        solve(1, 3),
+        solve(1, 2),
         check(&[1, 1, 0]),
         check(&[1, 3, 0]),
         check(&[2, 1, 0, 2, 0]),
@@ -252,9 +253,9 @@ fn dearest() -> Vec<Call> {
 fn parcels() -> Vec<Call> {
     let mut calls = Vec::new();
     for (size, _) in pinned::PARCELS {
-        calls.extend([load(&pinned::sent(size)), solve(4_096, 5), check(&[2, 1, 0, 2, 1])]);
-        calls.extend([link(0, 1, 1, 0, 1_000), solve(4_096, 5), check(&[2, 1, 0, 2, 1])]);
-        calls.extend([load(&pinned::joined_and_sent(size)), solve(4_096, 9)]);
+        calls.extend([load(&pinned::sent(size)), solve(2, 5), check(&[2, 1, 0, 2, 1])]);
+        calls.extend([link(0, 1, 1, 0, 1_000), solve(2, 5), check(&[2, 1, 0, 2, 1])]);
+        calls.extend([load(&pinned::joined_and_sent(size)), solve(6, 9)]);
         calls.push(check(&[4, 1, 1, 1, 0, 3, 0, 2, 1]));
     }
     calls

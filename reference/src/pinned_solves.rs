@@ -1,18 +1,19 @@
-//! Fixed lists of calls for solve alone: outputs of every length around a plan's, cells
-//! around what is needed, and what may stand between two solves.
+//! Fixed lists of calls for solve alone: outputs of every length around a plan's, numbers of
+//! cells around what is needed, and what may stand between two solves.
 
 use crate::encode::encode;
 use crate::limits::MOST_SIZE;
 use crate::pinned;
 use crate::pinned_calls::{check, link, load, load_file, solve};
 use crate::query::{Line, Query, Relation, Site};
+use crate::room::Draft;
 use crate::script::Call;
 use crate::sets::{self, Set};
-use crate::tree;
+use crate::tree::{self, Join};
 use crate::units::{Bytes, Charge, Rate};
 
 pub fn lists() -> Vec<Vec<Call>> {
-    vec![output_lengths(), cells(), between_two_solves()]
+    vec![output_lengths(), cells(), needs(), need_in_force(), between_two_solves()]
 }
 
 /// A row of docs/RULES.md, 10.3: Q is row 1, with a plan of 9 bytes; row 5 has one of 13,
@@ -27,10 +28,10 @@ pub fn output_lengths() -> Vec<Call> {
     let mut calls = Vec::new();
     for (number, most) in [(1, 10), (5, 14), (6, 14)] {
         calls.push(load(&row(number)));
-        calls.extend((0..=most).map(|output| solve(4_096, output)));
+        calls.extend((0..=most).map(|output| solve(9, output)));
     }
     calls.push(load(&longest_plan()));
-    calls.extend([68, 69, 70].map(|output| solve(4_096, output)));
+    calls.extend([68, 69, 70].map(|output| solve(360, output)));
     calls
 }
 
@@ -64,11 +65,68 @@ pub fn cells() -> Vec<Call> {
     let mut calls = Vec::new();
     for number in [1, 6] {
         calls.push(load(&row(number)));
-        for cells in [0, 4_095, 4_096, 5_000] {
+        for cells in FEW.into_iter().chain(ENOUGH) {
             calls.extend([9, 8, 0].map(|output| solve(cells, output)));
         }
     }
     calls
+}
+
+/// Q needs nine cells: too few are none, one, its relations, its subqueries, its relations
+/// at each site, and one less.
+pub const FEW: [u32; 6] = [0, 1, 2, 3, 6, 8];
+pub const ENOUGH: [u32; 7] = [9, 10, 24, 2_112, 4_095, 4_096, 5_000];
+
+/// One relation at each number of sites, then a chain and a star of nine at eight: a cell less
+/// than is needed, as many, and one more.
+pub fn needs() -> Vec<Call> {
+    let one_to_eight = (1..=8).map(|sites| tied(1, sites, pinned::chain(1)));
+    let nine = [pinned::chain(9), pinned::star(9)].map(|joins| tied(9, 8, joins));
+    let mut calls = Vec::new();
+    for (query, need) in one_to_eight.chain(nine).zip((1..=8).chain([360, 2_112])) {
+        calls.push(load(&query));
+        calls.extend([need - 1, need, need + 1, 4_096].map(|cells| solve(cells, 69)));
+    }
+    calls
+}
+
+/// Everything is free, so that all plans cost the same; all relations stand at site 0, and are
+/// asked for at the last.
+fn tied(n: usize, sites: usize, joins: Vec<Join>) -> Query {
+    let site = Site { may_join: true, fixed: Charge(0), rate: Rate(0) };
+    let line = Line { open: true, fixed: Charge(0), rate: Rate(0) };
+    let relations = vec![Relation { home: 0, index: false }; n];
+    let sizes = vec![Bytes(1); tree::subqueries(&joins, n).len()];
+    let lines = vec![line; sites * (sites - 1)];
+    Query::new(vec![site; sites], relations, joins, sizes, lines, sites - 1)
+}
+
+/// The need is that of the query in force: not of one that came before, was refused or was
+/// only drafted, and a link leaves it.
+pub fn need_in_force() -> Vec<Call> {
+    let (q, chain) = (pinned::q(), tied(9, 8, pinned::chain(9)));
+    let file = encode(&chain);
+    vec![
+        load(&chain),
+        solve(9, 69),
+        solve(359, 69),
+        solve(360, 37),
+        load(&q),
+        solve(9, 9),
+        solve(8, 9),
+        load_file(file[..file.len() - 1].to_vec()),
+        Call::Room(Draft::of(&chain)),
+        solve(9, 9),
+        link(1, 0, 0, 1, 1),
+        solve(8, 13),
+        solve(9, 13),
+        load(&chain),
+        solve(9, 69),
+        load_file(encode(&q)[..106].to_vec()),
+        Call::Room(Draft::of(&q)),
+        solve(9, 69),
+        solve(360, 37),
+    ]
 }
 
 /// Checks and refused calls leave the query in force, links and loads replace it: each
@@ -78,22 +136,22 @@ pub fn between_two_solves() -> Vec<Call> {
     let best = [4, 1, 0, 1, 1, 2, 0, 3, 0];
     vec![
         load(&q),
-        solve(4_096, 9),
+        solve(9, 9),
         check(&best),
         check(&[]),
-        solve(4_096, 9),
+        solve(9, 9),
         load_file(encode(&q)[..106].to_vec()),
-        solve(4_096, 9),
-        solve(4_095, 9),
-        solve(4_096, 8),
+        solve(9, 9),
+        solve(8, 9),
+        solve(9, 8),
         solve(4_096, 9),
         link(1, 0, 0, 1, 1),
         solve(4_096, 9),
-        solve(4_096, 13),
+        solve(9, 13),
         check(&best),
         link(2, 0, 0, 1, 1),
-        solve(4_096, 13),
+        solve(9, 13),
         load(&q),
-        solve(4_096, 9),
+        solve(9, 9),
     ]
 }

@@ -3,7 +3,7 @@
 
 use crate::check;
 use crate::decode;
-use crate::limits::{MOST_FIXED, MOST_RATE, WORK_CELLS};
+use crate::limits::{MOST_FIXED, MOST_RATE};
 use crate::method::Method;
 use crate::query::{Line, Query};
 use crate::refusal::Refusal;
@@ -75,11 +75,11 @@ impl Planner {
     }
 
     /// Writes the cheapest plan to the front of the output. Only a plan that was found can
-    /// be too long for it, so the output is judged last. The model needs no cells and
-    /// leaves all of them as they are.
+    /// be too long for it, so the output is judged last. The model asks for the cells that the
+    /// rules say are needed, and leaves all of them as they are.
     pub fn solve(&self, work: &mut [u64], output: &mut [u8]) -> Result<Solved, Refusal> {
         let query = self.query.as_ref().ok_or(Refusal::NothingLoaded)?;
-        if work.len() < WORK_CELLS {
+        if work.len() < query.cells_needed() {
             return Err(Refusal::FewCells);
         }
         let trials = solve::trials(query);

@@ -63,6 +63,12 @@ impl Query {
         &self.subqueries
     }
 
+    /// The cells that solve needs, one for each subquery and site, and the only ones that it
+    /// may write.
+    pub fn cells_needed(&self) -> usize {
+        self.subqueries.len() * self.sites.len()
+    }
+
     pub fn size(&self, subquery: Set) -> Bytes {
         let place = self.subqueries.binary_search(&subquery);
         self.sizes[place.expect("only a subquery has a size")]

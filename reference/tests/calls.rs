@@ -144,6 +144,9 @@ fn check_tells_the_place() {
 fn one_relation_at_one_site() {
     let expected = [
         "load 1 1",
+        "refused 21",
+        "cells OK",
+        "output OK",
         "solved 0 3 0 010100",
         "cells OK",
         "refused 23",

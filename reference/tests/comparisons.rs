@@ -2,7 +2,7 @@
 //! that nearly works.
 
 use reference::compare::program::Program;
-use reference::compare::{alike, apart, calls, own_figures, plan};
+use reference::compare::{alike, apart, calls, own_answers, own_figures, plan};
 use reference::listing;
 use reference::method::Method;
 
@@ -59,6 +59,7 @@ fn calls_pass_when_they_are_right() {
         assert_eq!(tally.count(&own_figures::held("trees", n)), trees);
     }
     assert_eq!(tally.count(&own_figures::held("chains and stars", 9)), 16);
+    assert_eq!(tally.count(own_answers::HELD) as u64, own_answers::QUERIES);
 }
 
 #[test]

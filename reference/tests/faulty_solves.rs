@@ -1,12 +1,13 @@
 //! Solves that go wrong in one way each, in their answer or in what they are lent; the
-//! comparison of call lists stops at every one of them.
+//! comparison of call lists stops at every one of them. Which cells they ask for and which they
+//! use is in faulty_cells.rs.
 
 use std::io;
 
 use reference::answers;
 use reference::compare::calls;
 use reference::compare::program::{Answering, Feed};
-use reference::limits::{LONGEST_PLAN, WORK_CELLS};
+use reference::limits::{LONGEST_PLAN, MOST_CELLS};
 use reference::method::Method;
 use reference::planner::{Planner, Solved};
 use reference::refusal::Refusal;
@@ -18,8 +19,8 @@ type Answer = Result<Solved, Refusal>;
 type Solve = fn(&Planner, &mut [u64], &mut [u8]) -> Answer;
 
 /// Which refusal is judged when, and what is answered.
-const WRONG_ANSWERS: [(&str, Solve); 12] = [
-    ("21 before 20", |planner, work, output| match work.len() < WORK_CELLS {
+const WRONG_ANSWERS: [(&str, Solve); 10] = [
+    ("21 before 20", |planner, work, output| match work.is_empty() {
         true => Err(Refusal::FewCells),
         false => planner.solve(work, output),
     }),
@@ -38,14 +39,6 @@ const WRONG_ANSWERS: [(&str, Solve); 12] = [
     ("23 before no route", |planner, work, output| match planner.solve(work, output) {
         Ok(Solved::NoRoute { .. }) if output.is_empty() => Err(Refusal::ShortOutput),
         answer => answer,
-    }),
-    ("a cell too many asked for", |planner, work, output| match work.len() {
-        WORK_CELLS if planner.query().is_some() => Err(Refusal::FewCells),
-        _ => planner.solve(work, output),
-    }),
-    ("a cell too few asked for", |planner, work, output| match work.len() + 1 {
-        WORK_CELLS => planner.solve(&mut [0; WORK_CELLS], output),
-        _ => planner.solve(work, output),
     }),
     ("a byte too many asked for", |planner, work, output| {
         asking_for(|plan| plan + 1, planner, work, output)
@@ -71,7 +64,7 @@ const WRONG_ANSWERS: [(&str, Solve); 12] = [
 ];
 
 /// What is written where nothing may be.
-const WRONG_WRITES: [(&str, Solve); 10] = [
+const WRONG_WRITES: [(&str, Solve); 8] = [
     ("output written before 23 is known", |planner, work, output| {
         let answer = planner.solve(work, output);
         if answer == Err(Refusal::ShortOutput) {
@@ -102,31 +95,23 @@ const WRONG_WRITES: [(&str, Solve); 10] = [
         }
         answer
     }),
-    ("cells past the needed ones written", |planner, work, output| {
-        let answer = planner.solve(work, output)?;
-        work.fill(0);
-        Ok(answer)
-    }),
     ("cells written on 20", |planner, work, output| {
-        cells_written(Refusal::NothingLoaded, 0, planner, work, output)
+        cells_written(Refusal::NothingLoaded, planner, work, output)
     }),
     ("cells written on 21", |planner, work, output| {
-        cells_written(Refusal::FewCells, 0, planner, work, output)
-    }),
-    ("cells past the needed ones written on 23", |planner, work, output| {
-        cells_written(Refusal::ShortOutput, WORK_CELLS, planner, work, output)
+        cells_written(Refusal::FewCells, planner, work, output)
     }),
 ];
 
 /// What the model answers on enough cells, with nothing written.
 fn on_enough_cells(planner: &Planner, output: &[u8]) -> Answer {
-    planner.solve(&mut [0; WORK_CELLS], &mut output.to_vec())
+    planner.solve(&mut [0; MOST_CELLS], &mut output.to_vec())
 }
 
 /// The plan of the query in force, and zeros behind it.
 fn plan(planner: &Planner) -> [u8; LONGEST_PLAN] {
     let mut plan = [0; LONGEST_PLAN];
-    planner.solve(&mut [0; WORK_CELLS], &mut plan).expect("the output is long enough");
+    planner.solve(&mut [0; MOST_CELLS], &mut plan).expect("the output is long enough");
     plan
 }
 
@@ -158,17 +143,11 @@ fn output_cleared(on: Refusal, planner: &Planner, work: &mut [u64], output: &mut
     answer
 }
 
-/// A cell is written where the refusal is this one.
-fn cells_written(
-    on: Refusal,
-    place: usize,
-    planner: &Planner,
-    work: &mut [u64],
-    output: &mut [u8],
-) -> Answer {
+/// The first cell is written where the refusal is this one.
+fn cells_written(on: Refusal, planner: &Planner, work: &mut [u64], output: &mut [u8]) -> Answer {
     let answer = planner.solve(work, output);
-    if answer == Err(on) && place < work.len() {
-        work[place] = 0;
+    if answer == Err(on) && !work.is_empty() {
+        work[0] = 0;
     }
     answer
 }
@@ -184,8 +163,7 @@ impl Answering for With {
         while let Some(call) = Call::next(&mut script) {
             let lines = match call {
                 Call::Solve { cells, output } => {
-                    let by = |work: &mut [u64], output: &mut [u8]| solve(&planner, work, output);
-                    answers::solve_lines(cells, output, by)
+                    answers::solve_lines(&planner, cells, output, solve)
                 }
                 _ => call.run(&mut planner),
             };

@@ -56,15 +56,82 @@ fn an_output_is_long_enough_or_too_short() {
 #[test]
 fn cells_are_judged_before_the_output() {
     let enough_for_q = [&Q[..], &SHORT_OUTPUT, &SHORT_OUTPUT].concat();
+    let (few, enough) = (pinned_solves::FEW.len(), pinned_solves::ENOUGH.len());
     let expected = [
         vec!["load 2 3"],
-        FEW_CELLS.repeat(2 * 3),
-        enough_for_q.repeat(2),
+        FEW_CELLS.repeat(few * 3),
+        enough_for_q.repeat(enough),
         vec!["load 2 3"],
-        FEW_CELLS.repeat(2 * 3),
-        NO_ROUTE.repeat(2 * 3),
+        FEW_CELLS.repeat(few * 3),
+        NO_ROUTE.repeat(enough * 3),
     ];
     assert_eq!(answers::lines(&pinned_solves::cells()), expected.concat());
+}
+
+/// Free chains and stars of nine at eight sites: of all plans the lowest site and the lowest
+/// join are taken, and what is joined at site 0 is sent to site 7.
+const CHAIN: &str = "010001010102010301040105010601070108\
+    03070306030503040303030203010300\
+    0207";
+const STAR: &str = "0100\
+    01080307010703060106030501050304010403030103030201020301\
+    01010300\
+    0207";
+
+/// Behind a plan of 18 steps the output is as it was.
+fn nine(trials: u64, steps: &str) -> String {
+    let rest: String = (37..69).map(|place| format!("{:02x}", answers::lent_byte(place))).collect();
+    format!("solved 0 37 {trials} 12{steps}{rest}")
+}
+
+/// A cell less than is needed, as many, one more, and 4,096.
+#[test]
+fn a_cell_for_each_subquery_and_site() {
+    let alone = |sites: usize| match sites {
+        1 => ("load 1 1".to_string(), 3, "solved 0 3 0 010100".to_string()),
+        _ => ("load 1 1".to_string(), 5, format!("solved 0 5 0 02010002{:02x}", sites - 1)),
+    };
+    let rest = |from: usize| -> String {
+        (from..69).map(|place| format!("{:02x}", answers::lent_byte(place))).collect()
+    };
+    let alone = (1..=8).map(alone).map(|(load, length, plan)| (load, plan + &rest(length)));
+    let of_nine = [("load 9 45", nine(960, CHAIN)), ("load 9 264", nine(8_192, STAR))];
+    let of_nine = of_nine.map(|(load, solved)| (load.to_string(), solved));
+    let mut expected: Vec<String> = Vec::new();
+    for (load, solved) in alone.chain(of_nine) {
+        expected.push(load);
+        expected.extend(FEW_CELLS.map(String::from));
+        let solved = [solved, "cells OK".to_string()];
+        expected.extend([&solved[..], &solved, &solved].concat());
+    }
+    assert_eq!(answers::lines(&pinned_solves::needs()), expected);
+}
+
+#[test]
+fn the_need_is_that_of_the_query_in_force() {
+    let chain = [&format!("solved 0 37 960 12{CHAIN}"), "cells OK"];
+    let expected: [&[&str]; 19] = [
+        &["load 9 45"],
+        &FEW_CELLS,
+        &FEW_CELLS,
+        &chain,
+        &["load 2 3"],
+        &Q,
+        &FEW_CELLS,
+        &["refused 1"],
+        &["room 45 360 960"],
+        &Q,
+        &["link"],
+        &FEW_CELLS,
+        &ROW_5,
+        &["load 9 45"],
+        &FEW_CELLS,
+        &["refused 1"],
+        &["room 3 9 3"],
+        &FEW_CELLS,
+        &chain,
+    ];
+    assert_eq!(answers::lines(&pinned_solves::need_in_force()), expected.concat());
 }
 
 #[test]

@@ -1,6 +1,7 @@
 //! `diff_calls CALLS [SEED] [LISTS]`: holds the built program `calls` to the model on
-//! fixed lists of calls and on LISTS random ones, and its room to its own load and solve on
-//! every tree of up to seven relations. Ends with 1 and the script at the first mismatch.
+//! fixed lists of calls and on LISTS random ones, its room to its own load and solve on every
+//! tree of up to seven relations, and its solve to itself with more cells on queries with ties.
+//! Ends with 1 and the script at the first mismatch.
 
 use std::process::ExitCode;
 

@@ -1,14 +1,14 @@
-//! The program `calls` held to the model, line by line, its two loads to each other, and its
-//! room to its load and solve. A list of calls on which they differ is made as short as it can
-//! be before it is printed.
+//! The program `calls` held to the model, line by line, its two loads to each other, its room
+//! to its load and solve, and its solve to itself with other cells. A list of calls on which
+//! they differ is made as short as it can be before it is printed.
 
 use std::io;
 
 use crate::compare::alike;
 use crate::compare::calls_mismatch::{script, shortest, Compared, Mismatch};
-use crate::compare::own_figures;
 use crate::compare::program::{Answering, Feed};
 use crate::compare::tally::Tally;
+use crate::compare::{own_answers, own_figures};
 use crate::generate::calls;
 use crate::method::Method;
 use crate::pinned_calls::{self, SOLVE};
@@ -28,7 +28,7 @@ const CALLS_IN_THE_FIRST: usize = 10_000;
 /// Kinds that no record has; one of them ends the run.
 const UNKNOWN: [u8; 5] = [0, 3, 4, 9, 255];
 
-/// The fixed lists, then so many random ones, then every tree.
+/// The fixed lists, then so many random ones, then every tree, then queries with ties.
 pub fn compare(
     program: &impl Answering,
     seed: u64,
@@ -50,7 +50,10 @@ pub fn compare(
             return Ok(Err(mismatch));
         }
     }
-    Ok(own_figures::compare(program, seed, &mut tally)?.map(|()| tally))
+    if let Err(mismatch) = own_figures::compare(program, seed, &mut tally)? {
+        return Ok(Err(mismatch));
+    }
+    Ok(own_answers::compare(program, seed, &mut tally)?.map(|()| tally))
 }
 
 /// Holds the list to the model, then its loads from rows to ordinary loads.

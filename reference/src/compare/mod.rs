@@ -4,10 +4,12 @@
 pub mod alike;
 pub mod apart;
 pub mod arguments;
+pub mod by_itself;
 pub mod c_call;
 pub mod calls;
 pub mod calls_mismatch;
 pub mod cases;
+pub mod own_answers;
 pub mod own_figures;
 pub mod plan;
 pub mod program;

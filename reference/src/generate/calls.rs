@@ -9,7 +9,8 @@ use crate::generate::queries::Extent;
 use crate::generate::rooms;
 use crate::generate::rows;
 use crate::generate::standing::Standing;
-use crate::limits::{LONGEST_PLAN, WORK_CELLS};
+use crate::limits::{LONGEST_PLAN, MOST_CELLS};
+use crate::query::Query;
 use crate::random::Random;
 use crate::room::Draft;
 use crate::script::Call;
@@ -74,7 +75,7 @@ fn twins(random: &mut Random, standing: &mut Standing, extent: &Extent) -> Vec<C
 }
 
 fn solve(random: &mut Random, standing: &Standing) -> Call {
-    Call::Solve { cells: cells(random), output: output_length(random, standing) }
+    Call::Solve { cells: cells(random, standing), output: output_length(random, standing) }
 }
 
 fn room(random: &mut Random, standing: &Standing) -> Call {
@@ -99,25 +100,17 @@ fn plan(random: &mut Random, standing: &Standing) -> Vec<u8> {
     }
 }
 
-fn cells(random: &mut Random) -> u32 {
-    let needed = WORK_CELLS as u32;
-    let any = random.between(0, 2 * u64::from(needed)) as u32;
-    random.pick(&[
-        needed,
-        needed,
-        needed,
-        needed,
-        needed + 1,
-        needed + 64,
-        8_192,
-        8_193,
-        u32::MAX,
-        needed - 1,
-        0,
-        1,
-        512,
-        any,
-    ])
+/// At and beside what the query in force needs, and what other queries need.
+fn cells(random: &mut Random, standing: &Standing) -> u32 {
+    let need = standing.query().map_or(9, Query::cells_needed) as u32;
+    let subqueries = standing.query().map_or(3, |query| query.subqueries().len()) as u32;
+    let fewer = random.below(need as usize) as u32;
+    let any = random.between(0, 8_192) as u32;
+    let most = MOST_CELLS as u32;
+    let enough = [need, need, need, need + 1, need + 64, 4_096, 8_192, 8_193, u32::MAX];
+    let others = [need - 1, need - 1, fewer, 0, subqueries, 8 * subqueries, most, 4_095, any];
+    let cells = if random.percent(70) { &enough } else { &others };
+    random.pick(cells)
 }
 
 /// At and beside the length of the plan that is written, where there is one.

@@ -99,18 +99,33 @@ impl Amounts {
 }
 
 pub fn query(random: &mut Random, extent: &Extent) -> Query {
+    let (joins, s) = drawn(random, extent);
+    with_joins(random, joins, s)
+}
+
+/// Joins, and a number of sites.
+fn drawn(random: &mut Random, extent: &Extent) -> (Vec<Join>, usize) {
     let n = random.between(*extent.relations.start(), *extent.relations.end()) as usize;
     let s = random.between(*extent.sites.start(), *extent.sites.end()) as usize;
     let shape = random.pick(&Shape::ALL);
-    let joins = joins(random, shape, n);
-    with_joins(random, joins, s)
+    (joins(random, shape, n), s)
+}
+
+/// A random query with few distinct prices, and so with many plans that cost the same.
+pub fn tied(random: &mut Random, extent: &Extent) -> Query {
+    let (joins, s) = drawn(random, extent);
+    in_mood(random, joins, s, Mood::Ties)
 }
 
 /// A random query with these joins at so many sites.
 pub fn with_joins(random: &mut Random, joins: Vec<Join>, s: usize) -> Query {
+    let mood = if random.percent(30) { Mood::Ties } else { Mood::Mixed };
+    in_mood(random, joins, s, mood)
+}
+
+fn in_mood(random: &mut Random, joins: Vec<Join>, s: usize, mood: Mood) -> Query {
     let n = joins.len() + 1;
     let subqueries = tree::subqueries(&joins, n).len();
-    let mood = if random.percent(30) { Mood::Ties } else { Mood::Mixed };
     let sites = sites(random, s, mood);
     let relations = relations(random, n, s);
     let sizes = sizes(random, subqueries, mood);
