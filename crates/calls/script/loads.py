@@ -43,7 +43,7 @@ def refused():
     yield load(q()), ["load 2 3"]
     for bytes_given, number in REFUSED:
         yield load(bytes_given), [f"refused {number}"]
-    yield solve(4096, 9), solved(21, 3, steps("l0 l1 s0 j0"), 9)
+    yield solve(9, 9), solved(21, 3, steps("l0 l1 s0 j0"), 9)
 
 
 def in_place():

@@ -73,10 +73,10 @@ def between():
         (room(2, 3, [(0, 2)]), ["refused 3"]),
         (room(2, 3, [(1, 1)]), ["refused 4"]),
     ]
-    detour = solve(4096, 13), solved(26, 3, DETOUR, 13)
+    detour = solve(9, 13), solved(26, 3, DETOUR, 13)
     for call in (
         (load(q()), ["load 2 3"]),
-        (solve(4096, 9), solved(21, 3, BEST, 9)),
+        (solve(9, 9), solved(21, 3, BEST, 9)),
         (check(BEST), ["check 21"]),
         (link(1, 0, 0, 1, 1), ["link"]),
         (check(BEST), ["refused 10 2"]),

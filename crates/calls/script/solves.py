@@ -1,17 +1,29 @@
 """Queries that are solved, and their plans checked. Each case states what load prints, the cost, the trials and the plan."""
 from script.queries import LONGEST, RELATIONS, SITES, alone, chain, closed, every, file, q, star
-from script.records import check, load, no_route, solve, solved, steps
+from script.records import check, load, no_route, refused, solve, solved, steps
 
 FREE = (1, 0, 0)
 
 
+def needed(query, loaded):
+    """The cells: one for each subquery that load tells, and each site that the file has."""
+    return int(loaded.split()[2]) * query[0]
+
+
 def found(query, loaded, cost, trials, plan, by=load):
-    """The output has a byte more than the plan."""
+    """The cells are just as many as are needed; the output has a byte more than the plan."""
     written = steps(plan)
     output = len(written) + 1
     yield by(query), [loaded]
-    yield solve(4096, output), solved(cost, trials, written, output)
+    yield solve(needed(query, loaded), output), solved(cost, trials, written, output)
     yield check(written), [f"check {cost}"]
+
+
+def beside(need, output, lines):
+    """A cell less than is needed, as many, one more, and 4,096: the answer is one and the same."""
+    yield solve(need - 1, output), refused(21)
+    for cells in need, need + 1, 4096:
+        yield solve(cells, output), lines
 
 
 def pinned():
@@ -22,7 +34,7 @@ def pinned():
     yield from found(q(sites=[(0, 2, 1)] + SITES[1:]), "load 2 3", 24, 3, "l0 s1 l1 j0 s0")
     yield from found(q(line=closed((1, 0))), "load 2 3", 26, 3, "l0 s2 l1 s2 j0 s0")
     yield load(q(line=closed((1, 0), (2, 0)))), ["load 2 3"]
-    yield solve(4096, 69), no_route(3)
+    yield from beside(9, 69, no_route(3))
     yield from found(q(line=every(*FREE)), "load 2 3", 19, 3, "l0 l1 s0 j0")
     yield from found(alone(0), "load 1 1", 0, 0, "l0")
     yield from found(alone(1), "load 1 1", 3, 0, "l0 s1")
@@ -93,10 +105,14 @@ STARS = [
 
 
 def shapes():
-    """Chains and stars of one to nine relations over two sites: their subqueries and trials."""
+    """Chains and stars of one to nine relations over two sites: their subqueries, cells and trials."""
     for joins, cases in ((chain, CHAINS), (star, STARS)):
         for n, case in enumerate(cases, 1):
-            yield from found(file([FREE] * 2, [(r % 2, r % 2) for r in range(n)], joins(n), lambda subquery: 1, every(1, 1, 1), 1), *case)
+            query = file([FREE] * 2, [(r % 2, r % 2) for r in range(n)], joins(n), lambda subquery: 1, every(1, 1, 1), 1)
+            yield from found(query, *case)
+            loaded, cost, trials, plan = case
+            written = steps(plan)
+            yield from beside(needed(query, loaded), len(written), solved(cost, trials, written, len(written)))
 
 
 def script():

@@ -28,14 +28,14 @@ def script():
     yield solve(4096, 9), refused(20)
     # Q; a refused call and a check leave the query, and the solve after them answers as the one before
     yield load(q()), ["load 2 3"]
-    yield solve(4096, 9), solved(21, 3, BEST, 9)
+    yield solve(9, 9), solved(21, 3, BEST, 9)
     yield check(BEST), ["check 21"]
     yield solve(4096, 69), solved(21, 3, BEST, 69)
     yield load(q() + b"\0"), ["refused 5"]
-    yield solve(4096, 9), solved(21, 3, BEST, 9)
-    yield solve(4095, 9), refused(21)
-    yield solve(4096, 8), refused(23)
-    yield solve(4096, 9), solved(21, 3, BEST, 9)
+    yield solve(9, 9), solved(21, 3, BEST, 9)
+    yield solve(8, 9), refused(21)
+    yield solve(9, 8), refused(23)
+    yield solve(9, 9), solved(21, 3, BEST, 9)
     yield link(1, 1, 2, 0, 0), ["refused 6"]
     yield link(0, 3, 1, 0, 0), ["refused 6"]
     yield link(WIDEST, 0, 1, 0, 0), ["refused 6"]
@@ -43,10 +43,10 @@ def script():
     yield link(1, 0, 2, 0, 0), ["refused 3"]
     yield link(1, 0, 0, 1_000_001, 0), ["refused 3"]
     yield link(1, 0, 0, 0, 2**32), ["refused 3"]
-    yield solve(4096, 10), solved(21, 3, BEST, 10)
+    yield solve(9, 10), solved(21, 3, BEST, 10)
     # solve and check follow the lines in force; more than can be lent is lent as all
     yield link(1, 0, 0, 1, 1), ["link"]
-    yield solve(4096, 9), refused(23)
+    yield solve(9, 9), refused(23)
     yield solve(8192, 2**32 - 1), solved(26, 3, DETOUR, 4096)
     yield check(BEST), ["refused 10 2"]
     yield check(DETOUR), ["check 26"]
@@ -60,4 +60,4 @@ def script():
     # a load replaces the query with its lines
     yield load(q()), ["load 2 3"]
     yield check(DETOUR), ["check 26"]
-    yield solve(4096, 9), solved(21, 3, BEST, 9)
+    yield solve(9, 9), solved(21, 3, BEST, 9)
