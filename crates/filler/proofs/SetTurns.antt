@@ -96,11 +96,11 @@ module _ (combine : ℕ → ℕ → ℕ) (C : Combines combine) (b sizes table b
         rw (f .laid .board .sites)
         (omega (arith, g .next-is, reach-within q v S (all (relationsOf q)) subquery (subqueries-law (q .joins) (relationsOf q) (v .tree) .whole) (omega arith), g .cells .room))
 
-    pub turn-on : (j : ℕ) → j ≡ getD table S 0 % 256 → (new noted : List ℕ) (s at : ℕ) → s ≡ sitesAt b → at ≡ next → noted ≡ set places S at →
+    pub turn-on : (j : ℕ) → j ≡ getD table S 0 % 256 → (new noted : List ℕ) (at then : ℕ) → at ≡ next → noted ≡ set places S at → then ≡ next + sitesAt b →
         Stored work new next (deliveredIn (startIn combine (lent b sizes places work) j S) b (sizeIn (lent b sizes places work) S)) (paired (sitesAt b)) →
-        Going combine q old new noted (S + 1) (next + s) (tried + (ones S - 1))
-    turn-on j joins new noted s at sites is note stored =
-        rw (note, is, sites ∙ f .laid .board .sites)
+        Going combine q old new noted (S + 1) then (tried + (ones S - 1))
+    turn-on j joins new noted at then is note after stored =
+        rw (note, is, after, f .laid .board .sites)
         (going-on combine q (f .laid .valid) old work places S next tried g new (deliveredIn (startIn combine (lent b sizes places work) j S) b (sizeIn (lent b sizes places work) S)) subquery
         (rw (f .laid .board .sites) at stored)
         (λ t low. rw (joins-are j joins) (cells-are combine C q (lent b sizes places work) laid-now S subquery (g .cells) t (omega (arith, f .laid .valid .sites-most)) ))

@@ -55,6 +55,9 @@ turn c = c .before .before
 ended : (c : tie.After-whole Inv-loop μ-loop) → c .whole .result ≡ all (joinsAt (c .before .before .before .before .args .board .now) + 1)
 ended c = c .whole .ensures ∙ ap (λ (m : ℕ). all (m + 1)) (c .before .joins-of .ensures)
 
+low : (t : Turn) → t .before .loop .set < t .before .before .whole .result
+low t = omega (arith, t .loop-test .taken)
+
 -- What has been reached at a turn, for the query that the caller has.
 abbrev sites : Turn → tie.After-sites-of Inv-loop μ-loop
 sites t = t .before .before .before .before
@@ -87,9 +90,9 @@ counted c =
     let p = start t .pre in
     let h = reached t (p .0) (p .1) in
     let test = i .is-connected .ensures in (
-      relations-some _+_ plus-combines _ _ _ _ _ _ _ _ _ _ _ (p .0) (p .1) (h .1) (t .loop-test .taken) (h .0) _ test (held (joined c) .if1 .taken),
-      ones-few _+_ plus-combines _ _ _ _ _ _ _ _ _ _ _ (p .0) (p .1) (h .1) (t .loop-test .taken) (h .0) _ test,
-      tried-few _+_ plus-combines _ _ _ _ _ _ _ _ _ _ _ (p .0) (p .1) (h .1) (t .loop-test .taken) (h .0) _ test,
+      relations-some _+_ plus-combines _ _ _ _ _ _ _ _ _ _ _ (p .0) (p .1) (h .1) (low t) (h .0) _ test (held (joined c) .if1 .taken),
+      ones-few _+_ plus-combines _ _ _ _ _ _ _ _ _ _ _ (p .0) (p .1) (h .1) (low t) (h .0) _ test,
+      tried-few _+_ plus-combines _ _ _ _ _ _ _ _ _ _ _ (p .0) (p .1) (h .1) (low t) (h .0) _ test,
     )
 
 placed : (c : Done) → (let t = turn (tested (joined c)) in (t .before .loop .next ≤ mostCells) × (sites t .sites-of .result ≤ 8))
@@ -99,8 +102,8 @@ placed c =
     let p = start t .pre in
     let h = reached t (p .0) (p .1) in
     let test = i .is-connected .ensures in (
-      next-few _+_ plus-combines _ _ _ _ _ _ _ _ _ _ _ (p .0) (p .1) (h .1) (t .loop-test .taken) (h .0) _ test,
-      sites-few _+_ plus-combines _ _ _ _ _ _ _ _ _ _ _ (p .0) (p .1) (h .1) (t .loop-test .taken) (h .0) _ test _ (sites t .sites-of .ensures),
+      next-few _+_ plus-combines _ _ _ _ _ _ _ _ _ _ _ (p .0) (p .1) (h .1) (low t) (h .0) _ test,
+      sites-few _+_ plus-combines _ _ _ _ _ _ _ _ _ _ _ (p .0) (p .1) (h .1) (low t) (h .0) _ test _ (sites t .sites-of .ensures),
     )
 
 pub fill-spec : {M : Type 1} → statement M
@@ -125,12 +128,12 @@ fill-spec =
     let p = start t .pre in
     let h = reached t (p .0) (p .1) in
     let test = i .is-connected .ensures in
-    (turn-startable _+_ plus-combines _ _ _ _ _ _ _ _ _ _ _ (p .0) (p .1) (h .1) (t .loop-test .taken) (h .0) _ test (held c .if1 .taken) _ (c .joins-in .ensures),
-    (next-few _+_ plus-combines _ _ _ _ _ _ _ _ _ _ _ (p .0) (p .1) (h .1) (t .loop-test .taken) (h .0) _ test,
-    turn-roomy _+_ plus-combines _ _ _ _ _ _ _ _ _ _ _ (p .0) (p .1) (h .1) (t .loop-test .taken) (h .0) _ test (held c .if1 .taken))))
+    (turn-startable _+_ plus-combines _ _ _ _ _ _ _ _ _ _ _ (p .0) (p .1) (h .1) (low t) (h .0) _ test (held c .if1 .taken) _ (c .joins-in .ensures),
+    (next-few _+_ plus-combines _ _ _ _ _ _ _ _ _ _ _ (p .0) (p .1) (h .1) (low t) (h .0) _ test,
+    turn-roomy _+_ plus-combines _ _ _ _ _ _ _ _ _ _ _ (p .0) (p .1) (h .1) (low t) (h .0) _ test (held c .if1 .taken))))
     (λ c. omega (arith, placed c))
     (λ c. search needs)
-    (λ c. let t = turn (tested (joined c)) in omega (arith, t .loop-test .taken, t .before .loop .inv .1 .1 .0))
+    (λ c. let t = turn (tested (joined c)) in omega (arith, low t, t .before .loop .inv .1 .1 .0))
     (λ c. omega (arith, placed c))
     (λ c. omega (arith, counted c))
     (λ c. omega (arith, counted c))
@@ -140,7 +143,7 @@ fill-spec =
     (λ c. let j = joined c in
     let i = tested j in
     let t = turn i in (
-      omega (arith, t .loop-test .taken),
+      omega (arith, low t),
       (
         omega arith,
         (
@@ -148,8 +151,8 @@ fill-spec =
           λ q f.
               let h = reached t q f in (
                 h .0,
-                turn-on _+_ plus-combines _ _ _ _ _ _ _ _ _ _ _ q f (h .1) (t .loop-test .taken) (h .0) _ (i .is-connected .ensures) (held j .if1 .taken) _ (j .joins-in .ensures) _ _ _ _
-                    (sites t .sites-of .ensures) refl refl (c .before .before .fill-set .ensures),
+                turn-on _+_ plus-combines _ _ _ _ _ _ _ _ _ _ _ q f (h .1) (low t) (h .0) _ (i .is-connected .ensures) (held j .if1 .taken) _ (j .joins-in .ensures) _ _ _ _
+                    (omega arith) refl (omega (arith, sites t .sites-of .ensures)) (c .before .before .fill-set .ensures),
               ),
         ),
       ),
@@ -158,14 +161,14 @@ fill-spec =
     (λ c. search needs)
     (λ c. let i = c .before in
     let t = turn i in (
-      omega (arith, t .loop-test .taken),
+      omega (arith, low t),
       (
         omega arith,
         (
           t .before .loop .inv .1 .1 .0,
           λ q f.
               let h = reached t q f in
-              (h .0, turn-skip _+_ plus-combines _ _ _ _ _ _ _ _ _ _ _ q f (h .1) (t .loop-test .taken) (h .0) _ (i .is-connected .ensures) (c .if1 .left)),
+              (h .0, turn-skip _+_ plus-combines _ _ _ _ _ _ _ _ _ _ _ q f (h .1) (low t) (h .0) _ (i .is-connected .ensures) (c .if1 .left)),
         ),
       ),
     ))
