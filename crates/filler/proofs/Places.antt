@@ -1,7 +1,7 @@
 -- Where cells stand: how far pairs reach over the sites, and that they stay within what a solve needs.
-use Prim.Native.Nat.{ℕ, _+_, _*_, _/_, _^_, _≤_, _<_}
+use Prim.Native.Nat.{ℕ, _+_, _*_, _^_, _≤_, _<_}
 use native.Mathlib.Omega.{arith}
-use mathlib.Core.Path.{_≡_, ap, sym, _∙_}
+use mathlib.Core.Path.{_≡_}
 use Rattle.relations.specs.Code.{mostSets}
 use Rattle.relations.specs.Trees.{Subquery}
 use Rattle.relations.proofs.Turns.{below-sets}

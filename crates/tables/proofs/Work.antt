@@ -11,7 +11,7 @@ use Rattle.relations.proofs.Connected.{subquery-range}
 use Rattle.relations.proofs.SubqueriesMost.{subqueries-most}
 use Rattle.relations.proofs.Below.{count-first, count-next, count-skip, count-mono}
 use Rattle.query.specs.declared.Query.{Query}
-use Rattle.query.specs.Query.{Valid, relationsOf, sitesOf}
+use Rattle.query.specs.Query.{relationsOf, sitesOf}
 use Rattle.tables.specs.Work.{cellsNeeded, MostCells, place, PlacesLaw}
 
 module _ (q : Query) where

@@ -1,5 +1,4 @@
 -- `placing::place` meets its contract: the sum of a place and a site does not leave a word. Assumes nothing.
-use native.Mathlib.Omega.{arith}
 use borrow.Author.Needs.{needs}
 use Rattle.filler.proofs.placing.place.Statement.{statement}
 use Rattle.filler.proofs.placing.place.Tie as tie

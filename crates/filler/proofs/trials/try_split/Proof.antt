@@ -1,5 +1,5 @@
 -- `trials::try_split` meets its contract: the pairs that begin at a site are tried, the one behind the other. Assumes nothing.
-use Prim.Native.Nat.{_+_, _≤_}
+use Prim.Native.Nat.{_≤_}
 use native.Mathlib.Omega.{arith}
 use borrow.Author.Needs.{needs}
 use Rattle.board.specs.Board.{sitesAt}
