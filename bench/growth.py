@@ -77,7 +77,7 @@ page = [
     "",
     *grid(lambda r: f"{r[2]}, {r[3] / 1000:.2f} µs"),
     "",
-    "The same as a ratio to that C at -O2. A small query's time is mostly that of what does not depend on its size: the board and the table of sets, the state handed over by value, and eight lanes whatever the number of sites.",
+    "The same as a ratio to that C at -O2. A small query's time is mostly that of what does not depend on its size: the board and the table of sets, the state handed over by value, and the eight lanes in which what is sent is weighed, whatever the number of sites.",
     "",
     *grid(lambda r: f"{r[3] / r[4]:.2f}"),
 ]
