@@ -103,5 +103,5 @@ module _ (combine : ℕ → ℕ → ℕ) (C : Combines combine) (b sizes table b
         rw (note, is, after, f .laid .board .sites)
         (going-on combine q (f .laid .valid) old work places S next tried g new (deliveredIn (startIn combine (lent b sizes places work) j S) b (sizeIn (lent b sizes places work) S)) subquery
         (rw (f .laid .board .sites) at stored)
-        (λ t low. rw (joins-are j joins) (cells-are combine C q (lent b sizes places work) laid-now S subquery (g .cells) t (omega (arith, f .laid .valid .sites-most)) ))
+        (λ t low. rw (joins-are j joins) (cells-are combine C q (lent b sizes places work) laid-now S subquery (g .cells) t (omega (arith, f .laid .valid .sites-most))))
         (λ t. least-most _ _) (omega arith) (omega (arith, g .noted, set-few)))

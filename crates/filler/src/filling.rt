@@ -60,7 +60,15 @@ pub fn fill<'a>(
     while set < end {
         let entry = table[set];
         if is_connected(entry) {
-            fill_set(board, sizes, &*places, &mut *work, set, joins_in(entry), next);
+            fill_set(
+                board,
+                sizes,
+                &*places,
+                &mut *work,
+                set,
+                joins_in(entry),
+                next,
+            );
             places[set] = next as u32;
             next += sites;
             tried = tried + (usize::count_ones(set) as u64 - 1);

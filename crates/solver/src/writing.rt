@@ -113,7 +113,14 @@ pub(crate) fn cheapest<'a>(
         Filled _+_ q (now (places .entry)) (now (work .entry)) (all (relationsOf q)) → q .target ≡ target → r ≡ mark (cheapest _+_ q)) ⌝ }
 {
     let every = whole(joins_of(board) + 1);
-    let row = start_row(board, sizes, places, work, every, joins_within(board, every));
+    let row = start_row(
+        board,
+        sizes,
+        places,
+        work,
+        every,
+        joins_within(board, every),
+    );
     let best = best_site(board, &row, size_of(sizes, every), target);
     best.figure
 }
@@ -156,7 +163,11 @@ fn last_join<'a>(
     while e < 8 {
         if bit(joins, e) == 1 {
             let part = set & side_at(board, e);
-            best = better(trial(board, sizes, places, work, part, set - part, k), e, best);
+            best = better(
+                trial(board, sizes, places, work, part, set - part, k),
+                e,
+                best,
+            );
             e += 1;
             continue;
         }

@@ -127,10 +127,13 @@ fill-spec =
     let t = turn i in
     let p = start t .pre in
     let h = reached t (p .0) (p .1) in
-    let test = i .is-connected .ensures in
-    (turn-startable _+_ plus-combines _ _ _ _ _ _ _ _ _ _ _ (p .0) (p .1) (h .1) (low t) (h .0) _ test (held c .if1 .taken) _ (c .joins-in .ensures),
-    (next-few _+_ plus-combines _ _ _ _ _ _ _ _ _ _ _ (p .0) (p .1) (h .1) (low t) (h .0) _ test,
-    turn-roomy _+_ plus-combines _ _ _ _ _ _ _ _ _ _ _ (p .0) (p .1) (h .1) (low t) (h .0) _ test (held c .if1 .taken))))
+    let test = i .is-connected .ensures in (
+      turn-startable _+_ plus-combines _ _ _ _ _ _ _ _ _ _ _ (p .0) (p .1) (h .1) (low t) (h .0) _ test (held c .if1 .taken) _ (c .joins-in .ensures),
+      (
+        next-few _+_ plus-combines _ _ _ _ _ _ _ _ _ _ _ (p .0) (p .1) (h .1) (low t) (h .0) _ test,
+        turn-roomy _+_ plus-combines _ _ _ _ _ _ _ _ _ _ _ (p .0) (p .1) (h .1) (low t) (h .0) _ test (held c .if1 .taken),
+      ),
+    ))
     (λ c. omega (arith, placed c))
     (λ c. search needs)
     (λ c. let t = turn (tested (joined c)) in omega (arith, low t, t .before .loop .inv .1 .1 .0))

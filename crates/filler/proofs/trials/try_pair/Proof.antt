@@ -31,8 +31,9 @@ try-pair-spec =
     (λ c. let t = c .before .before .before in omega (arith, t .before .before .before .pre .0 .1, t .loop-test .taken))
     (λ c. search needs)
     (λ c. search needs)
-    (λ c. let t = c .before .before .before in let i = t .before .loop .inv in
-    (omega (arith, t .loop-test .taken),
-    tried-more _ _ _ _ _ _ _ _ (i .1) refl (omega (arith, t .before .before .before .pre .0 .1, t .loop-test .taken)) (c .before .before .trial .ensures .0)
-    (c .lesser .ensures .0) (c .lesser .ensures .1)))
+    (λ c. let t = c .before .before .before in let i = t .before .loop .inv in (
+      omega (arith, t .loop-test .taken),
+      tried-more _ _ _ _ _ _ _ _ (i .1) refl (omega (arith, t .before .before .before .pre .0 .1, t .loop-test .taken)) (c .before .before .trial .ensures .0)
+          (c .lesser .ensures .0) (c .lesser .ensures .1),
+    ))
     (λ c. let l = c .before .loop in subst (TriedFrom _ _ _ _) (le-antisymm (l .inv .0) (c .loop-test .left)) (l .inv .1)))

@@ -27,9 +27,10 @@ cheapest-spec =
     (λ c κs. few-joins _+_ plus-combines _ _ _ (here c))
     (λ c κs. startable _+_ plus-combines _ _ _ (here (c .before)) _ (c .joins-within .ensures .0))
     (λ c κs. known-low _+_ plus-combines _ _ _ (here (c .before .before .before)))
-    (λ c κs. let w = c .before .before .before .before in let k = here w in
-    (c .before .before .start-row .ensures .1,
-    (carriable _+_ plus-combines _ _ _ k _ (c .size-of .ensures), (let p = start w .pre .1 in omega (arith, p .1, p .0 .0 .valid .target-in, p .0 .0 .valid .sites-most)))))
+    (λ c κs. let w = c .before .before .before .before in let k = here w in (
+      c .before .before .start-row .ensures .1,
+      (carriable _+_ plus-combines _ _ _ k _ (c .size-of .ensures), (let p = start w .pre .1 in omega (arith, p .1, p .0 .0 .valid .target-in, p .0 .0 .valid .sites-most))),
+    ))
     (λ c. let r = c .before .before .before in let w = r .before .before in
     λ q laid filled to.
     whole-figure _+_ plus-combines _ _ _ _ (w .before .joins-of .ensures) (w .whole .ensures) q laid filled to _ _ _ _ (r .before .joins-within .ensures .0) (r .start-row .ensures .0)
