@@ -46,7 +46,3 @@ Lanes row g = Listed row g 8 8
 pub record Marked (row : List ℕ) : Type 0 where
   pub long : length row ≡ 8
   pub most : (k : ℕ) → k < 8 → getD row k 0 ≤ noneMark
-
--- The row with the figure g k at each site k where it is less.
-abbrev pub Tried : (old new : List ℕ) → (ℕ → ℕ) → Type 0
-Tried old new g = Lanes new (λ (k : ℕ). lesser (g k) (getD old k 0))

@@ -11,11 +11,11 @@ ghost use Prim.Native.Nat.{ℕ, _+_, _≤_, _<_};
 ghost use mathlib.Core.Path.{_≡_};
 ghost use lib.ListN.{length, getD};
 ghost use Rattle.query.specs.Prices.{dearestLine};
-ghost use Rattle.board.specs.Figures.{noneMark, Lanes, Marked, Tried};
+ghost use Rattle.board.specs.Figures.{noneMark, Lanes, Marked};
 ghost use Rattle.tables.specs.Work.{mostCells};
 ghost use Rattle.filler.specs.Cells.{paired, Stored};
 ghost use Rattle.board.specs.Board.{sitesAt};
-ghost use Rattle.filler.specs.Trials.{carriageIn, Carriable, deliveredIn};
+ghost use Rattle.filler.specs.Trials.{TriedAt, carriageIn, Carriable, deliveredIn};
 
 // The carriage of a size from site k to site t.
 pub fn carriage(board: &[u64; 256], size: Bytes, k: usize, t: usize) -> Charge
@@ -29,7 +29,7 @@ pub fn carriage(board: &[u64; 256], size: Bytes, k: usize, t: usize) -> Charge
 // The row with what comes by way of site k, where it has cost a figure so far, where that is less.
 fn send_from(best: &mut [u64; 8], board: &[u64; 256], figure: u64, size: Bytes, k: usize)
     requires { ⌜ Marked (now best) × ((figure ≤ noneMark) × (Carriable (now board) (size .0) × (k < sitesAt (now board)))) ⌝ }
-    ensures { λ _. ⌜ Tried (now (best .entry)) (now (best .exit)) (λ (t : ℕ). figure + carriageIn (now (board .entry)) (size .0) k t) × Marked (now (best .exit)) ⌝ }
+    ensures { λ _. ⌜ TriedAt 8 (now (best .entry)) (now (best .exit)) (λ (t : ℕ). figure + carriageIn (now (board .entry)) (size .0) k t) × Marked (now (best .exit)) ⌝ }
 {
     let mut t = 0;
     while t < 8 {
