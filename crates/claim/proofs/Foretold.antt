@@ -16,8 +16,8 @@ use Rattle.query.specs.declared.Query.{Query}
 use Rattle.query.specs.Cost.{Cost}
 use Rattle.query.specs.Query.{Valid, relationsOf, sitesOf}
 use Rattle.query.proofs.Choice.{pick-all}
-use Rattle.decoder.proofs.InOrder.{sections-of}
 use Rattle.decoder.proofs.Valid.{decode-valid}
+use Rattle.files.proofs.InOrder.{sections-of}
 use Rattle.tables.specs.Tables.{cheapest, trials}
 use Rattle.tables.specs.Work.{cellsNeeded}
 use Rattle.room.specs.Room.{figuresOf, inLimits, room}

@@ -13,11 +13,11 @@ use Rattle.query.specs.Query.{relationsOf, sitesOf}
 use Rattle.decoder.specs.declared.Form.{Form}
 use Rattle.decoder.specs.Fields.{Read, value, number, countField, section}
 use Rattle.decoder.specs.Decode.{joinsSection}
-use Rattle.decoder.specs.Length.{sectionLength}
 use Rattle.decoder.proofs.Gives.{field-cases}
-use Rattle.decoder.proofs.Local.{came}
-use Rattle.decoder.proofs.InOrder.{Sections}
-use Rattle.decoder.proofs.Used.{sites, relations, joins, sites-length, relations-length, joins-length, before-sizes}
+use Rattle.files.specs.Length.{sectionLength}
+use Rattle.files.proofs.Local.{came}
+use Rattle.files.proofs.InOrder.{Sections}
+use Rattle.files.proofs.Used.{sites, relations, joins, sites-length, relations-length, joins-length, before-sizes}
 use Rattle.claim.specs.Foretold.{pairsIn}
 
 -- The first byte of the joins is their count.

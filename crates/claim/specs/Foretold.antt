@@ -12,7 +12,7 @@ use Rattle.query.specs.Query.{relationsOf, sitesOf}
 use Rattle.decoder.specs.declared.Form.{Form}
 use Rattle.decoder.specs.Fields.{value}
 use Rattle.decoder.specs.Decode.{decode}
-use Rattle.decoder.specs.Length.{sectionLength}
+use Rattle.files.specs.Length.{sectionLength}
 use Rattle.tables.specs.Tables.{trials}
 use Rattle.room.specs.Room.{figures, room}
 use Rattle.planner.specs.State.{State}

@@ -14,13 +14,3 @@ pub mod Kept
 pub mod RowLaws
 pub mod FileLaws
 pub mod Refusals
-pub mod Lengths
-pub mod SectionLengths
-pub mod Longest
-pub mod Local
-pub mod LocalSections
-pub mod InOrder
-pub mod Used
-pub mod Bytes
-pub mod SizesWritten
-pub mod RowsAsSizes

@@ -1,6 +1,4 @@
 pub mod Fields
 pub mod Decode
 pub mod Code
-pub mod Length
-pub mod Ordinary
 pub mod Theorems

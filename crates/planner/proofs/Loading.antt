@@ -17,7 +17,7 @@ use Rattle.decoder.specs.Fields as fields
 use Rattle.decoder.specs.Code.{decodedOf}
 use Rattle.decoder.specs.Decode.{decode}
 use Rattle.decoder.proofs.Valid.{decoded-valid}
-use Rattle.decoder.proofs.RowsAsSizes.{rows-as-sizes}
+use Rattle.files.proofs.RowsAsSizes.{rows-as-sizes}
 use Rattle.planner.specs.declared.Planner.{Planner}
 use Rattle.planner.specs.State.{State}
 use Rattle.planner.specs.Done.{doneWith}

@@ -6,7 +6,7 @@ use Rattle.relations.specs.Growth.{inside, leads, step, grow}
 use Rattle.relations.specs.Trees.{isSubquery, countBelow, reaches, part}
 use Rattle.decoder.specs.Fields.{number, field, items, storing, section}
 use Rattle.decoder.specs.Decode.{terms, two, sitesSection, relationsSection, joinsSection, sized, sizesSection, line, sender, linesSection, deliverySection, countsSection, rowsSections, decode}
-use Rattle.decoder.specs.Ordinary.{bytesOf, amounts, sizesBytes, ordinary}
+use Rattle.files.specs.Ordinary.{bytesOf, amounts, sizesBytes, ordinary}
 use Rattle.sizing.specs.Worked.{lowestWhere, links, joinTo, mayJoinIn, next, takenAfter, joinedSize, sizeAfter, workedSize, sizesBelow, workedSizes}
 use Rattle.query.specs.Query.{home, index, mayJoin, joinFixed, joinRate, isOpen, lineFixed, lineRate, size}
 use Rattle.query.specs.Prices.{parcels, linePrice, carriage, reads, joinPrice, indexed}

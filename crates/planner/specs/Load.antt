@@ -9,9 +9,9 @@ use Rattle.query.specs.Query.{relationsOf}
 use Rattle.decoder.specs.Fields.{Read, value}
 use Rattle.decoder.specs.Fields as fields
 use Rattle.decoder.specs.Decode.{decode}
-use Rattle.decoder.specs.Ordinary.{ordinary}
 use Rattle.decoder.specs.declared.Form.{Form}
 use Rattle.decoder.specs.declared.Form.the-variants as form
+use Rattle.files.specs.Ordinary.{ordinary}
 use Rattle.planner.specs.State.{State}
 use Rattle.planner.specs.Done.{Done, doneWith}
 

@@ -9,7 +9,7 @@ use Rattle.query.specs.declared.Query.{Query}
 use Rattle.decoder.specs.Fields.{value}
 use Rattle.decoder.specs.declared.Form.the-variants as form
 use Rattle.decoder.specs.Decode.{decode}
-use Rattle.decoder.specs.Ordinary.{ordinary}
+use Rattle.files.specs.Ordinary.{ordinary}
 use Rattle.tables.specs.Rows.{Q, withLines, closing}
 use Rattle.planner.specs.Done.{doneWith}
 use Rattle.planner.specs.Load as Load

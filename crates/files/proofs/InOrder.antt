@@ -15,11 +15,11 @@ use Rattle.query.specs.declared.Lines.{Lines}
 use Rattle.query.specs.declared.Query.{Query}
 use Rattle.query.specs.Choice.{pick}
 use Rattle.query.specs.Query.{relationsOf, sitesOf}
 use Rattle.decoder.specs.declared.Form.{Form}
 use Rattle.decoder.specs.Fields.{Read, refused, value, andThen}
 use Rattle.decoder.specs.Decode.{sitesSection, relationsSection, joinsSection, sizesBy, linesSection, deliverySection}
 use Rattle.decoder.specs.Decode.{afterDelivery, afterLines, afterSizes, afterJoins, afterRelations, afterSites, decode}
-use Rattle.decoder.proofs.Local.{came}
+use Rattle.files.proofs.Local.{came}
 
 pub record Sections (f : Form) (file : List ℕ) (q : Query) (l : List ℕ) : Type 0 where
   pub sites-left : List ℕ

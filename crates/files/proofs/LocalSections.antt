@@ -2,10 +2,10 @@
 use Prim.Native.Nat.{ℕ, _-_}
 use Rattle.relations.specs.declared.Joins.{Joins}
 use Rattle.query.specs.Zeros.{noSites, noRelations, noJoins}
 use Rattle.decoder.specs.Fields.{fromOneTo}
 use Rattle.decoder.specs.Decode.{terms, two, withSite, sitesSection, withRelation, relationsSection, withJoin, joinsSection}
 use Rattle.decoder.specs.Decode.{withNumber, countsSection, rowsSections}
-use Rattle.decoder.proofs.Local.{Local, field-local, value-local, then-local, section-local}
+use Rattle.files.proofs.Local.{Local, field-local, value-local, then-local, section-local}
 
 terms-local : Local terms
 unfolding terms

@@ -15,16 +15,16 @@ use Rattle.relations.proofs.SubqueriesMost.{subqueries-most}
 use Rattle.query.specs.declared.Query.{Query}
 use Rattle.query.specs.Query.{Valid, relationsOf, sitesOf}
 use Rattle.query.proofs.Choice.{pick-all}
 use Rattle.decoder.specs.declared.Form.{Form}
 use Rattle.decoder.specs.declared.Form.the-variants as form
 use Rattle.decoder.specs.Fields.{refused}
 use Rattle.decoder.specs.Decode.{sitesSection, relationsSection, joinsSection, sizesBy, linesSection, deliverySection, decode}
-use Rattle.decoder.specs.Length.{sizesLength, fileLength, longestFile}
-use Rattle.decoder.specs.Theorems.{DecodeLength, LongestFile}
 use Rattle.decoder.proofs.Gives.{Gives}
-use Rattle.decoder.proofs.Lengths.{Takes, takes-then}
-use Rattle.decoder.proofs.SectionLengths.{sites-take, relations-take, joins-take, sizes-take, rows-take, lines-take, delivery-takes}
 use Rattle.decoder.proofs.Valid.{decode-valid}
+use Rattle.files.specs.Length.{sizesLength, fileLength, longestFile}
+use Rattle.files.specs.Theorems.{DecodeLength, LongestFile}
+use Rattle.files.proofs.Lengths.{Takes, takes-then}
+use Rattle.files.proofs.SectionLengths.{sites-take, relations-take, joins-take, sizes-take, rows-take, lines-take, delivery-takes}
 
 -- The sizes, by the form of the file.
 sizes-by-take : (f : Form) (J : Joins) (n : ℕ) → Takes (λ a. sizesLength f J n) (sizesBy f J n)

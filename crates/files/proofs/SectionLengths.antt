@@ -16,12 +16,12 @@ use Rattle.query.specs.Choice.{pick}
 use Rattle.query.specs.Terms.{withLine}
 use Rattle.query.specs.Zeros.{noSites, noRelations, noJoins, noLines}
 use Rattle.query.proofs.Choice.{pick-all}
 use Rattle.decoder.specs.Fields.{Read, value, byteBelow, amountUpTo, fromOneTo, items, storing}
 use Rattle.decoder.specs.Decode.{terms, two, withSite, sitesSection, withRelation, relationsSection, withJoin, joinsSection, withNumber}
 use Rattle.decoder.specs.Decode.{sized, sizesSection, countsSection, rowsSections, line, sender, linesSection, deliverySection}
-use Rattle.decoder.specs.Length.{sectionLength, rowsLength}
 use Rattle.decoder.proofs.Gives.{Gives, gives-so}
-use Rattle.decoder.proofs.Lengths.{Takes, field-takes, field-next, takes-then, items-take, storing-takes, section-takes}
+use Rattle.files.specs.Length.{sectionLength, rowsLength}
+use Rattle.files.proofs.Lengths.{Takes, field-takes, field-next, takes-then, items-take, storing-takes, section-takes}
 
 -- Sites, relations and joins, by their items.
 terms-take : Takes (λ t. 9) terms

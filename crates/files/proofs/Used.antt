@@ -7,15 +7,15 @@ use mathlib.Core.List.{List, _++_}
 use lib.ListN.{length, length-append}
 use Rattle.query.specs.declared.Query.{Query}
 use Rattle.query.specs.Query.{relationsOf, sitesOf}
 use Rattle.decoder.specs.declared.Form.{Form}
 use Rattle.decoder.specs.Fields.{Read, value}
 use Rattle.decoder.specs.Decode.{sitesSection, relationsSection, joinsSection}
-use Rattle.decoder.specs.Length.{sectionLength}
-use Rattle.decoder.proofs.Lengths.{Takes}
-use Rattle.decoder.proofs.SectionLengths.{sites-take, relations-take, joins-take}
-use Rattle.decoder.proofs.Local.{Splits}
-use Rattle.decoder.proofs.LocalSections.{sites-local, relations-local, joins-local}
-use Rattle.decoder.proofs.InOrder.{Sections}
+use Rattle.files.specs.Length.{sectionLength}
+use Rattle.files.proofs.Lengths.{Takes}
+use Rattle.files.proofs.SectionLengths.{sites-take, relations-take, joins-take}
+use Rattle.files.proofs.Local.{Splits}
+use Rattle.files.proofs.LocalSections.{sites-local, relations-local, joins-local}
+use Rattle.files.proofs.InOrder.{Sections}
 
 -- A local reading used as many bytes as it takes.
 pub used-length :

@@ -17,10 +17,10 @@ use Rattle.query.specs.declared.Query.{Query}
 use Rattle.query.specs.Query.{relationsOf, size, UpTo}
 use Rattle.query.proofs.Limits.{zeros-up-to}
 use Rattle.sizing.proofs.Most.{SizesIn}
 use Rattle.decoder.specs.Fields.{value, items, storing}
 use Rattle.decoder.specs.Decode.{sized, sizesSection}
-use Rattle.decoder.specs.Ordinary.{amounts, sizesBytes}
-use Rattle.decoder.proofs.Bytes.{field-bytes}
+use Rattle.files.specs.Ordinary.{amounts, sizesBytes}
+use Rattle.files.proofs.Bytes.{field-bytes}
 
 -- The numbers of l before place S, and zeros from there on.
 record Filled (l a : List ℕ) (S : ℕ) : Type 0 where

@@ -12,21 +12,21 @@ use Rattle.relations.proofs.SubqueriesMost.{subqueries-most}
 use Rattle.query.specs.declared.Query.{Query}
 use Rattle.query.specs.Query.{Valid, relationsOf}
 use Rattle.sizing.proofs.Most.{SizesIn, worked-sizes-is}
 use Rattle.decoder.specs.declared.Form.the-variants as form
 use Rattle.decoder.specs.Fields.{value}
 use Rattle.decoder.specs.Decode.{sizesSection, countsSection, rowsSections}
-use Rattle.decoder.specs.Length.{beforeSizes, rowsLength}
-use Rattle.decoder.specs.Ordinary.{sizesBytes, linesFrom, ordinary}
-use Rattle.decoder.specs.Theorems.{RowsAsSizes}
 use Rattle.decoder.proofs.Gives.{Has, gives-then}
 use Rattle.decoder.proofs.RowRanges.{counts-in}
-use Rattle.decoder.proofs.SectionLengths.{rows-take}
 use Rattle.decoder.proofs.Valid.{decode-valid}
-use Rattle.decoder.proofs.Local.{Splits}
-use Rattle.decoder.proofs.LocalSections.{rows-local}
-use Rattle.decoder.proofs.InOrder.{Sections, sections-of, by-sections}
-use Rattle.decoder.proofs.Used.{used-length, sites, relations, joins, sites-length, relations-length, joins-length, before-sizes}
-use Rattle.decoder.proofs.SizesWritten.{sizes-again}
+use Rattle.files.specs.Length.{beforeSizes, rowsLength}
+use Rattle.files.specs.Ordinary.{sizesBytes, linesFrom, ordinary}
+use Rattle.files.specs.Theorems.{RowsAsSizes}
+use Rattle.files.proofs.SectionLengths.{rows-take}
+use Rattle.files.proofs.Local.{Splits}
+use Rattle.files.proofs.LocalSections.{rows-local}
+use Rattle.files.proofs.InOrder.{Sections, sections-of, by-sections}
+use Rattle.files.proofs.Used.{used-length, sites, relations, joins, sites-length, relations-length, joins-length, before-sizes}
+use Rattle.files.proofs.SizesWritten.{sizes-again}
 
 -- Sizes that were worked out from row counts and divisors stand at the subqueries.
 worked-in : (J : Joins) (n : ℕ) (l : List ℕ) → Has (SizesIn J n) (rowsSections J n l)

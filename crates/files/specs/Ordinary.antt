@@ -6,7 +6,7 @@ use Rattle.relations.specs.Trees.{isSubquery, subqueries}
 use Rattle.query.specs.declared.Query.{Query}
 use Rattle.query.specs.Choice.{pick}
 use Rattle.query.specs.Query.{relationsOf, size}
-use Rattle.decoder.specs.Length.{beforeSizes, rowsLength}
+use Rattle.files.specs.Length.{beforeSizes, rowsLength}
 
 -- A number in w bytes, little-endian.
 unfoldable pub bytesOf : (w v : ℕ) → List ℕ

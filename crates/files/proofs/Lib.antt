@@ -1,0 +1,10 @@
+pub mod Lengths
+pub mod SectionLengths
+pub mod Longest
+pub mod Local
+pub mod LocalSections
+pub mod InOrder
+pub mod Used
+pub mod Bytes
+pub mod SizesWritten
+pub mod RowsAsSizes
