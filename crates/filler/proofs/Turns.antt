@@ -1,4 +1,4 @@
--- Each turn of a loop over the eight lanes of a row keeps what the loop has shown so far; and a row of least figures takes one figure more at each lane.
+-- Each turn of a loop over lanes of a row keeps what the loop has shown so far; and a row of least figures takes one figure more at each lane.
 use Prim.Native.Nat.{ℕ, _+_, _-_, _≤_, _<_}
 use native.Mathlib.Nat.{le-refl, le-antisymm}
 use native.Mathlib.Numerals.{add-one}
