@@ -54,7 +54,7 @@ solve-spec =
     (λ c κs. search (needs, drawn-here))
     (λ c κs. (_, fillable c))
     (λ c. let f = c .before .before in omega (arith, tried-few _ _ _ _ _ (filled f) (entry (f .before) .pre .0)))
-    (λ c. let f = c .before .before in omega (arith, trials-few _ _ _ _ _ (filled f) (entry (f .before) .pre .0)))
+    (λ c. let f = c .before .before in let v = entry (f .before) .pre .0 in omega (arith, tried-few _ _ _ _ _ (filled f) v, trials-few _ _ _ _ _ (filled f) v))
     (λ c κs. let f : tie.After-fill = c .before .before .before .before .before .before .before in let l = fillable (f .before) .laid in
     (_, ((laid-here _ _ _ _ (l .valid) (l .board), filled f .cells), refl)))
     (λ c κs. let t : tie.Then1 = c .before .before .before .before .before .before in let f = filling (t .before) in let l = fillable (f .before) .laid in
@@ -63,7 +63,7 @@ solve-spec =
     (λ c. search needs)
     (λ c. let w = c .before .before in let t : tie.Then1 = w .before .before .before .before .before .before .before in let f = filling (t .before) in
     let l = fillable (f .before) .laid in
-    answer-found _ _ _ _ _ (filled f) (l .valid) _ refl _ _ _ _ (number t) (w .write-plan .ensures _ (laid-here _ _ _ _ (l .valid) (l .board)) (filled f .cells) refl _ (number t)))
+    answer-found _ _ _ _ _ (filled f) (l .valid) _ (omega arith) _ _ _ _ (number t) (w .write-plan .ensures _ (laid-here _ _ _ _ (l .valid) (l .board)) (filled f .cells) refl _ (number t)))
     (λ c. search needs)
     (λ c. let f = filling (c .before) in let v = entry (f .before) .pre .0 in
-    answer-none _ _ _ _ _ (filled f) v _ refl _ (cheapest-none _+_ plus-combines _ v _ (figure (c .before)) (c .if1 .left))))
+    answer-none _ _ _ _ _ (filled f) v _ (omega arith) _ (cheapest-none _+_ plus-combines _ v _ (figure (c .before)) (c .if1 .left))))
