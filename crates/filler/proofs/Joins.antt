@@ -12,7 +12,7 @@ use Rattle.relations.proofs.Counts.{lowest-off}
 use Rattle.relations.proofs.Walks.{From, from-first, none-from, lowest-left, lowest-past, lowest-whole, none-between, one-less, from-next}
 use Rattle.board.specs.Figures.{noneMark, leastOf, Marked}
 use Rattle.board.specs.Board.{sideAt, sitesAt}
-use Rattle.filler.specs.Cells.{paired}
+use Rattle.filler.specs.Cells.{reach}
 use Rattle.filler.specs.Trials.{Lent, trialOf, Triable, partBy, AtSites, TriedAt, joinTrial, Joinable, joinedIn}
 use Rattle.filler.proofs.Turns.{none-marked, least-none, least-more, least-past}
 
@@ -79,7 +79,7 @@ module _ (combine : ℕ → ℕ → ℕ) (l : Lent) (joins S : ℕ) where
       next-less rest e = omega (arith, next-off rest e, one-less joins left (j .at) (j .from) some fits (2 ^ lowest 64 left) refl)
 
       -- What trying its join asks, and the row with the trials of it.
-      pub next-asks : Joinable l joins S → (side : ℕ) → side ≡ sideAt (l .board) (lowest 64 left) → (k : ℕ) → k < paired (sitesAt (l .board)) →
+      pub next-asks : Joinable l joins S → (side : ℕ) → side ≡ sideAt (l .board) (lowest 64 left) → (k : ℕ) → k < reach (sitesAt (l .board)) →
           Triable l (bitAnd S side) (S - bitAnd S side) k
       next-asks a side is k low =
           subst (λ (x : ℕ). Triable l (bitAnd S x) (S - bitAnd S x) k) (sym is) (a .each (lowest 64 left) k next-low low next-joins)

@@ -23,11 +23,11 @@ use Rattle.tables.proofs.Most.{delivered-most}
 use Rattle.tables.proofs.Work.{place-after}
 use Rattle.board.specs.Figures.{noneMark, mark}
 use Rattle.board.specs.Board.{sideAt}
-use Rattle.filler.specs.Cells.{placeIn, paired}
+use Rattle.filler.specs.Cells.{placeIn, reach}
 use Rattle.filler.specs.Trials.{Lent, cellIn, Triable, Joinable}
 use Rattle.filler.specs.Filling.{LaidOut, Filled}
 use Rattle.filler.proofs.Marks.{UpToOr, up-to-is}
-use Rattle.filler.proofs.Places.{paired-eight, reach-within}
+use Rattle.filler.proofs.Places.{reach-eight, reach-within}
 use Rattle.filler.proofs.Boards.{priced}
 
 -- The part that the side of a join gives.
@@ -74,27 +74,27 @@ module _ (combine : ℕ → ℕ → ℕ) (C : Combines combine) (q : Query) (l :
         second-cell = cell-is (otherPart q S e) k (parts .second-part) (small .second-less) site;
       }
 
-  -- What a trial asks of one of them, as far as pairs reach.
-  module _ (P k : ℕ) (p : Subquery (q .joins) (relationsOf q) P) (less : P < S) (reach : k < paired (sitesOf q)) where
+  -- What a trial asks of one of them, as far as the loops reach.
+  module _ (P k : ℕ) (p : Subquery (q .joins) (relationsOf q) P) (less : P < S) (low : k < reach (sitesOf q)) where
     cell-place : placeIn (l .places) P k < length (l .work)
     cell-place = omega (arith, placed P k p less, place-after q P k, reach-within q (laid .valid) P S p s less, filled .room)
 
     cell-most : cellIn l P k ≤ noneMark
-    cell-most = rw (placed P k p less) (filled .most P k less p reach)
+    cell-most = rw (placed P k p less) (filled .most P k less p low)
 
-  triable : (e k : ℕ) → e < q .joins .count → inside (q .joins) S e ≡ true → k < paired (sitesOf q) → Triable l (firstPart q S e) (otherPart q S e) k
-  triable e k h within reach =
+  triable : (e k : ℕ) → e < q .joins .count → inside (q .joins) S e ≡ true → k < reach (sitesOf q) → Triable l (firstPart q S e) (otherPart q S e) k
+  triable e k h within low =
       let parts : Split (q .joins) (relationsOf q) S e = split (q .joins) (relationsOf q) (laid .valid .tree) S e s h within in
       let small : Smaller S (firstPart q S e) (otherPart q S e) = split-smaller (q .joins) (relationsOf q) S e parts in
-      let low : S < 2 ^ relationsOf q = subquery-range (q .joins) (relationsOf q) S s .1 in
+      let inside : S < 2 ^ relationsOf q = subquery-range (q .joins) (relationsOf q) S s .1 in
       record {
         priced = priced q l laid (firstPart q S e) (otherPart q S e) k (subquery-range (q .joins) (relationsOf q) (firstPart q S e) (parts .first-part) .1)
             (subquery-range (q .joins) (relationsOf q) (otherPart q S e) (parts .second-part) .1) (omega (arith, parts .whole))
-            (omega (arith, paired-eight (sitesOf q) (laid .valid .sites-most)));
-        first-place = cell-place (firstPart q S e) k (parts .first-part) (small .first-less) reach;
-        second-place = cell-place (otherPart q S e) k (parts .second-part) (small .second-less) reach;
-        first-cell = cell-most (firstPart q S e) k (parts .first-part) (small .first-less) reach;
-        second-cell = cell-most (otherPart q S e) k (parts .second-part) (small .second-less) reach;
+            (omega (arith, reach-eight (sitesOf q)));
+        first-place = cell-place (firstPart q S e) k (parts .first-part) (small .first-less) low;
+        second-place = cell-place (otherPart q S e) k (parts .second-part) (small .second-less) low;
+        first-cell = cell-most (firstPart q S e) k (parts .first-part) (small .first-less) low;
+        second-cell = cell-most (otherPart q S e) k (parts .second-part) (small .second-less) low;
       }
 
   -- What the joins of S ask.

@@ -22,7 +22,7 @@ use Rattle.tables.proofs.Tables.{ones-some}
 use Rattle.tables.specs.Work.{mostCells}
 use Rattle.tables.proofs.Trials.{joins-below}
 use Rattle.tables.proofs.Work.{most-cells}
-use Rattle.filler.specs.Cells.{paired, Stored}
+use Rattle.filler.specs.Cells.{reach, Stored}
 use Rattle.board.specs.Board.{joinsAt, sitesAt}
 use Rattle.board.proofs.LeastFigures.{least-most}
 use Rattle.filler.specs.Trials.{Lent, lent, sizeIn, Startable, startIn, deliveredIn}
@@ -90,14 +90,14 @@ module _ (combine : ℕ → ℕ → ℕ) (C : Combines combine) (b sizes table b
     pub turn-startable : (j : ℕ) → j ≡ getD table S 0 % 256 → Startable (lent b sizes places work) j S
     turn-startable j joins = rw (joins-are j joins) (startable combine C q (lent b sizes places work) laid-now S subquery (g .cells))
 
-    pub turn-roomy : next + paired (sitesAt b) ≤ length work
+    pub turn-roomy : next + reach (sitesAt b) ≤ length work
     turn-roomy =
         let v = f .laid .valid in
         rw (f .laid .board .sites)
         (omega (arith, g .next-is, reach-within q v S (all (relationsOf q)) subquery (subqueries-law (q .joins) (relationsOf q) (v .tree) .whole) (omega arith), g .cells .room))
 
     pub turn-on : (j : ℕ) → j ≡ getD table S 0 % 256 → (new noted : List ℕ) (at then : ℕ) → at ≡ next → noted ≡ set places S at → then ≡ next + sitesAt b →
-        Stored work new next (deliveredIn (startIn combine (lent b sizes places work) j S) b (sizeIn (lent b sizes places work) S)) (paired (sitesAt b)) →
+        Stored work new next (deliveredIn (startIn combine (lent b sizes places work) j S) b (sizeIn (lent b sizes places work) S)) (reach (sitesAt b)) →
         Going combine q old new noted (S + 1) then (tried + (ones S - 1))
     turn-on j joins new noted at then is note after stored =
         rw (note, is, after, f .laid .board .sites)

@@ -24,9 +24,9 @@ use Rattle.tables.specs.Work.{cellsNeeded, place}
 use Rattle.tables.proofs.Trials.{joins-none, joins-next}
 use Rattle.tables.proofs.Work.{place-after, place-first, place-next, place-skip, place-before}
 use Rattle.board.specs.Figures.{noneMark, mark}
-use Rattle.filler.specs.Cells.{paired, Stored}
+use Rattle.filler.specs.Cells.{reach, Stored}
 use Rattle.filler.specs.Filling.{Filled, FilledFrom}
-use Rattle.filler.proofs.Places.{paired-least, paired-most, reach-within}
+use Rattle.filler.proofs.Places.{reach-least, reach-within}
 
 -- What filling has reached when set S is next, and its cells would stand from `next` on.
 pub record Going (combine : ℕ → ℕ → ℕ) (q : Query) (old work places : List ℕ) (S next tried : ℕ) : Type 0 where
@@ -79,7 +79,7 @@ module _ (combine : ℕ → ℕ → ℕ) (q : Query) (v : Valid q) where
             first = λ T h. below-next (λ X. Subquery (q .joins) (relationsOf q) X → getD places X 0 ≡ place q X 0) S (λ s. absurd (never-both _ s out)) (g .cells .first) T h;
             each = λ T t h. below-next (λ X. Subquery (q .joins) (relationsOf q) X → t < sitesOf q → getD work (place q X t) 0 ≡ mark (delivered combine q X t)) S
                 (λ s m. absurd (never-both _ s out)) (λ X l. g .cells .each X t l) T h;
-            most = λ T t h. below-next (λ X. Subquery (q .joins) (relationsOf q) X → t < paired (sitesOf q) → getD work (place q X t) 0 ≤ noneMark) S
+            most = λ T t h. below-next (λ X. Subquery (q .joins) (relationsOf q) X → t < reach (sitesOf q) → getD work (place q X t) 0 ≤ noneMark) S
                 (λ s m. absurd (never-both _ s out)) (λ X l. g .cells .most X t l) T h;
           };
           long = g .long;
@@ -90,23 +90,23 @@ module _ (combine : ℕ → ℕ → ℕ) (q : Query) (v : Valid q) where
         }
 
     -- A subquery, with its cells stored and the first of them noted.
-    module _ (new : List ℕ) (f : ℕ → ℕ) (s : Subquery (q .joins) (relationsOf q) S) (stored : Stored work new next f (paired (sitesOf q)))
+    module _ (new : List ℕ) (f : ℕ → ℕ) (s : Subquery (q .joins) (relationsOf q) S) (stored : Stored work new next f (reach (sitesOf q)))
         (is : (t : ℕ) → t < sitesOf q → f t ≡ mark (delivered combine q S t)) (few : (t : ℕ) → f t ≤ noneMark) where
       here : (t : ℕ) → next + t ≡ place q S t
       here t = omega (arith, g .next-is, place-after q S t)
 
-      -- The cells of lower subqueries are before it; only what a pair reaches behind them may be its first.
+      -- The cells of lower subqueries are before it; only what is reached behind them may be its own.
       other : (T t : ℕ) → T < S → Subquery (q .joins) (relationsOf q) T → t < sitesOf q → getD new (place q T t) 0 ≡ getD work (place q T t) 0
       other T t l p m = stored .kept .below (place q T t) (omega (arith, place-before q T S p l, place-after q T t, g .next-is))
 
-      behind : (T t : ℕ) → T < S → Subquery (q .joins) (relationsOf q) T → t < paired (sitesOf q) → getD new (place q T t) 0 ≤ noneMark
+      behind : (T t : ℕ) → T < S → Subquery (q .joins) (relationsOf q) T → t < reach (sitesOf q) → getD new (place q T t) 0 ≤ noneMark
       behind T t l p m = go (decLt (place q T t) next)
         where
           go : Dec (place q T t < next) → getD new (place q T t) 0 ≤ noneMark
           go (yes low) = rw (stored .kept .below (place q T t) low) (g .cells .most T t l p m)
           go (no high) =
-              let at : place q T t ≡ next + 0 = omega (arith, place-before q T S p l, place-after q T t, g .next-is, paired-most (sitesOf q)) in
-              rw (at, stored .each 0 (omega (arith, v .sites-some, paired-least (sitesOf q)))) (few 0)
+              let at : place q T t ≡ next + (place q T t - next) = omega arith in
+              rw (at, stored .each (place q T t - next) (omega (arith, place-before q T S p l, place-after q T t, g .next-is))) (few (place q T t - next))
 
       pub going-on : S < all (relationsOf q) → S < length places → Going combine q old new (set places S next) (S + 1) (next + sitesOf q) (tried + (ones S - 1))
       going-on low long =
@@ -118,7 +118,7 @@ module _ (combine : ℕ → ℕ → ℕ) (q : Query) (v : Valid q) where
               first = λ T h. below-next (λ X. Subquery (q .joins) (relationsOf q) X → getD (set places S next) X 0 ≡ place q X 0) S
                   (λ p. getD-set-same places S next 0 long ∙ g .next-is) (λ X l p. getD-set-other places S X next 0 (λ e. omega arith) ∙ g .cells .first X l p) T h;
               each = λ T t h p m. below-next (λ X. Subquery (q .joins) (relationsOf q) X → getD new (place q X t) 0 ≡ mark (delivered combine q X t)) S
-                  (λ p. ap (λ (i : ℕ). getD new i 0) (sym (here t)) ∙ stored .each t (omega (arith, paired-least (sitesOf q))) ∙ is t m)
+                  (λ p. ap (λ (i : ℕ). getD new i 0) (sym (here t)) ∙ stored .each t (omega (arith, reach-least (sitesOf q) (v .sites-most))) ∙ is t m)
                   (λ X l p. other X t l p m ∙ g .cells .each X t l p m) T h p;
               most = λ T t h p m. below-next (λ X. Subquery (q .joins) (relationsOf q) X → getD new (place q X t) 0 ≤ noneMark) S
                   (λ p. rw (← here t, stored .each t m) (few t)) (λ X l p. behind X t l p m) T h p;
@@ -130,7 +130,7 @@ module _ (combine : ℕ → ℕ → ℕ) (q : Query) (v : Valid q) where
             joins = omega (arith, g .joins, joins-next (q .joins) (relationsOf q) S true s);
           }
         where
-          reaches : S < all (relationsOf q) → place q S 0 + paired (sitesOf q) ≤ cellsNeeded q
+          reaches : S < all (relationsOf q) → place q S 0 + reach (sitesOf q) ≤ cellsNeeded q
           reaches h = reach-within q v S (all (relationsOf q)) s (subqueries-law (q .joins) (relationsOf q) (v .tree) .whole) h
 
 -- After the last set every subquery but the whole query is filled.

@@ -13,7 +13,7 @@ use Rattle.tables.specs.Tables.{delivered, joinsBelow}
 use Rattle.tables.specs.Work.{cellsNeeded, place}
 use Rattle.board.specs.Figures.{noneMark, mark}
 use Rattle.board.specs.Board.{BoardOf}
-use Rattle.filler.specs.Cells.{paired}
+use Rattle.filler.specs.Cells.{reach}
 use Rattle.filler.specs.Trials.{Lent}
 
 -- What is lent is a valid query's: its board and its sizes.
@@ -22,12 +22,12 @@ pub record LaidOut (q : Query) (l : Lent) : Type 0 where
   pub board : BoardOf q (l .board)
   pub sizes : l .sizes ≡ q .sizes
 
--- The cells of every subquery below m are filled: its first one is noted, each is Delivered, and what a pair reaches behind them is a figure too.
+-- The cells of every subquery below m are filled: its first one is noted, each is Delivered, and what the loops reach behind them is a figure too.
 pub record Filled (combine : ℕ → ℕ → ℕ) (q : Query) (places work : List ℕ) (m : ℕ) : Type 0 where
   pub room : cellsNeeded q ≤ length work
   pub first : (S : ℕ) → S < m → Subquery (q .joins) (relationsOf q) S → getD places S 0 ≡ place q S 0
   pub each : (S t : ℕ) → S < m → Subquery (q .joins) (relationsOf q) S → t < sitesOf q → getD work (place q S t) 0 ≡ mark (delivered combine q S t)
-  pub most : (S t : ℕ) → S < m → Subquery (q .joins) (relationsOf q) S → t < paired (sitesOf q) → getD work (place q S t) 0 ≤ noneMark
+  pub most : (S t : ℕ) → S < m → Subquery (q .joins) (relationsOf q) S → t < reach (sitesOf q) → getD work (place q S t) 0 ≤ noneMark
 
 -- What filling the cells asks.
 pub record Fillable (q : Query) (l : Lent) (table : List ℕ) : Type 0 where

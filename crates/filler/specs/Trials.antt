@@ -15,7 +15,7 @@ use Rattle.query.specs.Prices.{lineCharge, reads, joinCharge}
 use Rattle.query.specs.Masks.{IsMask}
 use Rattle.board.specs.Figures.{noneMark, lesser, leastOf, placeOf, Marked}
 use Rattle.board.specs.Laying.{Kept}
-use Rattle.filler.specs.Cells.{placeIn, paired}
+use Rattle.filler.specs.Cells.{placeIn, reach}
 use Rattle.board.specs.Board.{sideAt, fixedAt, rateAt, countedAt, lineFixedAt, lineRateAt, homesAt, sitesAt}
 
 -- What the loops are lent: the board, the sizes, the places of the subqueries' first cells, and the work area.
@@ -88,7 +88,7 @@ pub record Joinable (l : Lent) (joins S : ℕ) : Type 0 where
   pub few : joins < 256
   pub some-site : 1 ≤ sitesAt (l .board)
   pub few-sites : sitesAt (l .board) ≤ 8
-  pub each : (e k : ℕ) → e < 8 → k < paired (sitesAt (l .board)) → bit joins e ≡ 1 → Triable l (partBy l S e) (S - partBy l S e) k
+  pub each : (e k : ℕ) → e < 8 → k < reach (sitesAt (l .board)) → bit joins e ≡ 1 → Triable l (partBy l S e) (S - partBy l S e) k
 
 -- The row of the joins: the least at each site.
 abbrev pub joinedIn : (ℕ → ℕ → ℕ) → Lent → (joins S k : ℕ) → ℕ

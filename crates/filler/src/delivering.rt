@@ -1,4 +1,5 @@
 // Delivered: the least over the sites that a subquery can start from, with the line from there.
+use crate::placing::lanes;
 use board::LINE_FIXED;
 use board::LINE_RATE;
 use board::NONE;
@@ -13,7 +14,7 @@ ghost use lib.ListN.{length, getD};
 ghost use Rattle.query.specs.Prices.{dearestLine};
 ghost use Rattle.board.specs.Figures.{noneMark, Lanes, Marked};
 ghost use Rattle.tables.specs.Work.{mostCells};
-ghost use Rattle.filler.specs.Cells.{paired, Stored};
+ghost use Rattle.filler.specs.Cells.{paired, reach, Stored};
 ghost use Rattle.board.specs.Board.{sitesAt};
 ghost use Rattle.filler.specs.Trials.{TriedAt, carriageIn, Carriable, deliveredIn};
 
@@ -54,13 +55,13 @@ fn delivered_row(board: &[u64; 256], row: &[u64; 8], size: Bytes) -> [u64; 8]
     best
 }
 
-// The cells of a subquery, two at a time: for an odd number of sites one more is stored behind them, where the next subquery begins.
-fn store(work: &mut [u64], row: &[u64; 8], at: usize, sites: usize)
-    requires { ⌜ (sites ≤ 8) × ((at ≤ mostCells) × (at + paired sites ≤ length (now work))) ⌝ }
-    ensures { λ _. ⌜ Stored (now (work .entry)) (now (work .exit)) at (λ (t : ℕ). getD (now (row .entry)) t 0) (paired sites) ⌝ }
+// So many cells of a subquery, two at a time. Those beyond its sites are the next row's, where a figure then stands until that row is stored.
+fn store(work: &mut [u64], row: &[u64; 8], at: usize, lanes: usize)
+    requires { ⌜ (lanes ≤ 8) × ((at ≤ mostCells) × (at + paired lanes ≤ length (now work))) ⌝ }
+    ensures { λ _. ⌜ Stored (now (work .entry)) (now (work .exit)) at (λ (t : ℕ). getD (now (row .entry)) t 0) (paired lanes) ⌝ }
 {
     let mut t = 0;
-    while t < sites {
+    while t < lanes {
         work[at + t] = row[t];
         work[at + t + 1] = row[t + 1];
         t += 2;
@@ -69,11 +70,11 @@ fn store(work: &mut [u64], row: &[u64; 8], at: usize, sites: usize)
 
 // The cells of a subquery from what it has cost at each site where it can start from.
 pub(crate) fn deliver(work: &mut [u64], board: &[u64; 256], row: &[u64; 8], size: Bytes, at: usize)
-    requires { ⌜ (Marked (now row) × Carriable (now board) (size .0)) × ((at ≤ mostCells) × (at + paired (sitesAt (now board)) ≤ length (now work))) ⌝ }
+    requires { ⌜ (Marked (now row) × Carriable (now board) (size .0)) × ((at ≤ mostCells) × (at + reach (sitesAt (now board)) ≤ length (now work))) ⌝ }
     ensures { λ _.
         ⌜ Stored (now (work .entry)) (now (work .exit)) at (deliveredIn (λ (k : ℕ). getD (now (row .entry)) k 0) (now (board .entry)) (size .0))
-        (paired (sitesAt (now (board .entry)))) ⌝ }
+        (reach (sitesAt (now (board .entry)))) ⌝ }
 {
     let cells = delivered_row(board, row, size);
-    store(work, &cells, at, sites_of(board));
+    store(work, &cells, at, lanes(sites_of(board)));
 }

@@ -13,7 +13,7 @@ ghost use lib.ListN.{length};
 ghost use Rattle.query.specs.declared.Query.{Query};
 ghost use Rattle.tables.specs.Work.{mostCells};
 ghost use Rattle.board.specs.Board.{sitesAt};
-ghost use Rattle.filler.specs.Cells.{paired, Stored};
+ghost use Rattle.filler.specs.Cells.{reach, Stored};
 ghost use Rattle.filler.specs.Trials.{lent, sizeIn, Startable, startIn, deliveredIn};
 ghost use Rattle.filler.specs.Filling.{Fillable, FilledFrom};
 
@@ -27,12 +27,12 @@ fn fill_set<'a>(
     joins: usize,
     at: usize,
 )
-    requires { ⌜ Startable (lent (now board) (now sizes) (now places) (now work)) joins set × ((at ≤ mostCells) × (at + paired (sitesAt (now board)) ≤ length (now work))) ⌝ }
+    requires { ⌜ Startable (lent (now board) (now sizes) (now places) (now work)) joins set × ((at ≤ mostCells) × (at + reach (sitesAt (now board)) ≤ length (now work))) ⌝ }
     ensures { λ _.
         ⌜ Stored (now (work .entry)) (now (work .exit)) at
         (deliveredIn (startIn _+_ (lent (now (board .entry)) (now (sizes .entry)) (now (places .entry)) (now (work .entry))) joins set) (now (board .entry))
         (sizeIn (lent (now (board .entry)) (now (sizes .entry)) (now (places .entry)) (now (work .entry))) set))
-        (paired (sitesAt (now (board .entry)))) ⌝ }
+        (reach (sitesAt (now (board .entry)))) ⌝ }
 {
     let row = start_row(board, sizes, places, &*work, set, joins);
     let size = size_of(sizes, set);

@@ -1,8 +1,9 @@
 // What a subquery has cost at each site where it can start from: where its one relation stands, else where it is joined.
-use crate::trials::try_split;
+use crate::few::joined_few;
+use crate::many::joined_many;
 use board::NONE;
 use board::homes_at;
-use board::side_at;
+use board::sites_of;
 use relations::SETS;
 use relations::bit;
 ghost use Prim.Native.Nat.{_+_};
@@ -32,7 +33,8 @@ fn bare_row(homes: usize) -> [u64; 8]
     row
 }
 
-// The row of a set over its joins, which are given as bits: the least trial at each site.
+// The row of a set over its joins, which are given as bits: the least trial at each site. The number of sites is asked for here and not at each join,
+// so that the row stays in registers.
 pub fn joined_row<'a>(
     board: &'a [u64; 256],
     sizes: &'a [u32; SETS],
@@ -44,15 +46,10 @@ pub fn joined_row<'a>(
     requires { ⌜ Joinable (lent (now board) (now sizes) (now places) (now work)) joins set ⌝ }
     ensures { λ r. ⌜ AtSites (sitesAt (now (board .entry))) r (joinedIn _+_ (lent (now (board .entry)) (now (sizes .entry)) (now (places .entry)) (now (work .entry))) joins set) × Marked r ⌝ }
 {
-    let mut row = [NONE; 8];
-    let mut left = joins;
-    while left != 0 {
-        let e = usize::trailing_zeros(left) as usize;
-        let part = set & side_at(board, e);
-        try_split(&mut row, board, sizes, places, work, part, set - part);
-        left = left & (left - 1);
+    if sites_of(board) <= 4 {
+        return joined_few(board, sizes, places, work, set, joins);
     }
-    row
+    joined_many(board, sizes, places, work, set, joins)
 }
 
 // What a subquery has cost at each site where it can start from, its joins given as bits: none for one relation.

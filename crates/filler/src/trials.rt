@@ -4,7 +4,6 @@ use board::FIXED;
 use board::RATE;
 use board::counted_at;
 use board::lesser;
-use board::sites_of;
 use query::Bytes;
 use query::Charge;
 use query::amount;
@@ -16,10 +15,8 @@ ghost use Prim.Native.Nat.{ℕ, _+_, _^_, _≤_, _<_};
 ghost use mathlib.Core.Path.{_≡_};
 ghost use lib.ListN.{getD};
 ghost use Rattle.relations.specs.Code.{mostSets};
-ghost use Rattle.board.specs.Board.{sitesAt};
 ghost use Rattle.board.specs.Figures.{noneMark, Marked};
-ghost use Rattle.filler.specs.Cells.{paired};
-ghost use Rattle.filler.specs.Trials.{lent, Priced, priceIn, Triable, trialOf, TriedAt, TriedFrom};
+ghost use Rattle.filler.specs.Trials.{lent, Priced, priceIn, Triable, trialOf, TriedFrom};
 
 // The size of a set.
 pub fn size_of(sizes: &[u32; SETS], set: usize) -> Bytes
@@ -73,7 +70,7 @@ pub fn trial<'a>(
 }
 
 // The row with the trials of one split at two sites where they are less.
-fn try_pair<'a>(
+pub(crate) fn try_pair<'a>(
     row: &mut [u64; 8],
     board: &'a [u64; 256],
     sizes: &'a [u32; SETS],
@@ -93,36 +90,4 @@ fn try_pair<'a>(
         row[k] = lesser(trial(board, sizes, places, work, part, rest, k), row[k]);
         i += 1;
     }
-}
-
-// The same at every site. The pairs are written out, so that their lanes are constants and the row stays in registers.
-pub(crate) fn try_split<'a>(
-    row: &mut [u64; 8],
-    board: &'a [u64; 256],
-    sizes: &'a [u32; SETS],
-    places: &'a [u32; SETS],
-    work: &[u64],
-    part: usize,
-    rest: usize,
-)
-    requires { ⌜ Marked (now row) × ((k : ℕ) → k < paired (sitesAt (now board)) → Triable (lent (now board) (now sizes) (now places) (now work)) part rest k) ⌝ }
-    requires { ⌜ (1 ≤ sitesAt (now board)) × (sitesAt (now board) ≤ 8) ⌝ }
-    ensures { λ _.
-        ⌜ TriedAt (sitesAt (now (board .entry))) (now (row .entry)) (now (row .exit)) (trialOf _+_ (lent (now (board .entry)) (now (sizes .entry)) (now (places .entry)) (now (work .entry))) part rest)
-        × Marked (now (row .exit)) ⌝ }
-{
-    let sites = sites_of(board);
-    try_pair(&mut *row, board, sizes, places, work, part, rest, 0);
-    if sites <= 2 {
-        return;
-    }
-    try_pair(&mut *row, board, sizes, places, work, part, rest, 2);
-    if sites <= 4 {
-        return;
-    }
-    try_pair(&mut *row, board, sizes, places, work, part, rest, 4);
-    if sites <= 6 {
-        return;
-    }
-    try_pair(&mut *row, board, sizes, places, work, part, rest, 6);
 }

@@ -31,7 +31,7 @@ use Rattle.filler.specs.Trials.{Lent, sizeIn, AtSites, trialOf, Triable, joinTr
 use Rattle.filler.specs.Filling.{Filled}
 use Rattle.solver.specs.Writing.{joinsWithin, siteBy, joinBy, Known}
 use Rattle.board.proofs.LeastFigures.{choice-more, choice-same, place-same}
-use Rattle.filler.proofs.Places.{paired-least}
+use Rattle.filler.proofs.Places.{reach-least}
 use Rattle.filler.proofs.Started.{startCost, delivered-started}
 use Rattle.filler.proofs.Columns as columns
 use Rattle.solver.proofs.Chosen.{within-is}
@@ -157,4 +157,4 @@ module _ (combine : ℕ → ℕ → ℕ) (C : Combines combine) (q : Query) (l :
   pub triable : (joins e d side i : ℕ) → joins ≡ within l S → e < 8 → i < sitesOf q → d ≡ bit joins e → d ≡ 1 → side ≡ sideAt (l .board) e →
       Triable l (bitAnd S side) (S - bitAnd S side) i
   triable joins e d side i is h listed d-is one side-is =
-      rw side-is (joinable joins is .each e i h (omega (arith, k .laid .board .sites, paired-least (sitesAt (l .board)))) (sym d-is ∙ one))
+      rw side-is (joinable joins is .each e i h (omega (arith, k .laid .board .sites, reach-least (sitesAt (l .board)) (joinable joins is .few-sites))) (sym d-is ∙ one))

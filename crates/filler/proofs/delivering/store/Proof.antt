@@ -12,16 +12,16 @@ use Rattle.filler.proofs.delivering.store.Statement.{statement}
 use Rattle.filler.proofs.delivering.store.Tie as tie
 
 abbrev Inv-loop : tie.InvT-loop
-Inv-loop work₀ row at sites t₀ work t = ((h : ℕ) × (t ≡ 2 * h)) × ((t ≤ paired sites) × Stored work₀ work at (λ (i : ℕ). getD row i 0) t)
+Inv-loop work₀ row at lanes t₀ work t = ((h : ℕ) × (t ≡ 2 * h)) × ((t ≤ paired lanes) × Stored work₀ work at (λ (i : ℕ). getD row i 0) t)
 
 abbrev μ-loop : tie.MeasureT-loop
-μ-loop work₀ row at sites t₀ work t = paired sites - t
+μ-loop work₀ row at lanes t₀ work t = paired lanes - t
 
 abbrev Turn : Type 0
 Turn = tie.In-loop Inv-loop μ-loop
 
--- A pair that begins at a site lies within the row and the area.
-reach : (c : Turn) → c .before .loop .t + 2 ≤ paired (c .before .before .args .sites)
+-- A pair that begins at a lane lies within the row and the area.
+reach : (c : Turn) → c .before .loop .t + 2 ≤ paired (c .before .before .args .lanes)
 reach c = pair-within (c .before .loop .inv .0 .0) _ _ (c .before .loop .inv .0 .1) (c .loop-test .taken)
 
 lane : (c : Turn) → c .before .loop .t + 2 ≤ 8

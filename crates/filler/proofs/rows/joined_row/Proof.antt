@@ -1,34 +1,15 @@
--- `rows::joined_row` meets its contract: each turn tries the lowest join that is left. Assumes nothing.
-use Prim.Native.Nat.{_+_}
+-- `rows::joined_row` meets its contract: few sites or many. Assumes nothing.
 use native.Mathlib.Omega.{arith}
-use mathlib.Core.Path.{refl}
-use lib.Bits.{and-le-l}
-use Rattle.query.proofs.Indexed.{place-fits}
-use Rattle.filler.specs.Trials.{lent}
-use Rattle.filler.proofs.Joins.{JoinedTo, joined-none, joined-done, next-low, next-less, next-asks, joined-more}
+use borrow.Author.Needs.{needs}
 use Rattle.filler.proofs.rows.joined_row.Statement.{statement}
 use Rattle.filler.proofs.rows.joined_row.Tie as tie
-
-abbrev Inv-loop : tie.InvT-loop
-Inv-loop board sizes places work set joins row₀ left₀ row left = JoinedTo _+_ (lent board sizes places work) joins set row left
-
-abbrev μ-loop : tie.MeasureT-loop
-μ-loop board sizes places work set joins row₀ left₀ row left = left
 
 pub joined-row-spec : {M : Type 1} → statement M
 joined-row-spec =
     tie.close
     (tie.spec
-    Inv-loop
-    μ-loop
-    (λ c. joined-none _ _ _ _ _ (omega arith) (c .before .pre))
-    (λ c. place-fits _)
-    (λ c κs. next-low _ _ _ _ _ _ (c .before .loop .inv) (c .loop-test .taken))
-    (λ c. and-le-l _ _)
-    (λ c κs. let t = c .before .before in let i = t .before in let p = i .before .before .pre in
-    ((i .loop .inv .marked, next-asks _ _ _ _ _ _ (i .loop .inv) (t .loop-test .taken) p _ (c .before .side-at .ensures)), (p .some-site, p .few-sites)))
-    (λ c. let t = c .before .before .before in omega (arith, t .loop-test .taken))
-    (λ c. let t = c .before .before .before in next-less _ _ _ _ _ _ (t .before .loop .inv) (t .loop-test .taken) _ refl)
-    (λ c. let a = c .before .before in let t = a .before in
-    joined-more _ _ _ _ _ _ (t .before .loop .inv) (t .loop-test .taken) _ _ _ (a .side-at .ensures) refl (c .try-split .ensures))
-    (λ c. joined-done _ _ _ _ _ _ (c .before .loop .inv) (c .loop-test .left)))
+    (λ c κs. search needs)
+    (λ c κs. (c .before .before .before .pre, omega (arith, c .before .sites-of .ensures, c .if1 .taken)))
+    (λ c. search needs)
+    (λ c κs. (c .before .before .before .pre, omega (arith, c .before .sites-of .ensures, c .if1 .left)))
+    (λ c. search needs))
