@@ -86,7 +86,7 @@ module _ (combine : ℕ → ℕ → ℕ) (C : Combines combine) (q : Query) (l :
   triable e k h within low =
       let parts : Split (q .joins) (relationsOf q) S e = split (q .joins) (relationsOf q) (laid .valid .tree) S e s h within in
       let small : Smaller S (firstPart q S e) (otherPart q S e) = split-smaller (q .joins) (relationsOf q) S e parts in
-      let inside : S < 2 ^ relationsOf q = subquery-range (q .joins) (relationsOf q) S s .1 in
+      let bounded : S < 2 ^ relationsOf q = subquery-range (q .joins) (relationsOf q) S s .1 in
       record {
         priced = priced q l laid (firstPart q S e) (otherPart q S e) k (subquery-range (q .joins) (relationsOf q) (firstPart q S e) (parts .first-part) .1)
             (subquery-range (q .joins) (relationsOf q) (otherPart q S e) (parts .second-part) .1) (omega (arith, parts .whole))

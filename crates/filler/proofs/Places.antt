@@ -1,14 +1,15 @@
 -- Where cells stand: how far the loops reach over the sites, and that they stay within what a solve needs.
 use Prim.Native.Nat.{ℕ, _+_, _*_, _^_, _≤_, _<_}
-use native.Mathlib.Decide.{decLt}
 use native.Mathlib.Omega.{arith}
 use mathlib.Core.Path.{_≡_}
-use borrow.Author.Tests.{le-leb, lt-leb}
+use lib.Dec.{leb}
+use borrow.Author.Tests.{leb-true, leb-false, le-leb, lt-leb}
 use Rattle.relations.specs.Code.{mostSets}
 use Rattle.relations.specs.Trees.{Subquery}
 use Rattle.relations.proofs.Turns.{below-sets}
 use Rattle.query.specs.declared.Query.{Query}
 use Rattle.query.specs.Query.{Valid, relationsOf, sitesOf}
+use Rattle.query.proofs.Choice.{pick-all}
 use Rattle.tables.specs.Work.{cellsNeeded, place}
 use Rattle.tables.proofs.Work.{place-mono, row-within, row-spare}
 use Rattle.filler.specs.Cells.{paired, lanesOf, reach}
@@ -36,17 +37,22 @@ pub lanes-many : (s : ℕ) → 4 < s → 8 ≡ lanesOf s
 unfolding lanesOf
 lanes-many s h = rw (lt-leb s 4 h)
 
+-- What holds of the lanes of both.
+by-lanes : (P : ℕ → Type 0) (s : ℕ) → (s ≤ 4 → P s) → (4 < s → P 8) → P (lanesOf s)
+unfolding lanesOf
+by-lanes P s few many = pick-all P (leb s 4) s 8 (λ e. few (leb-true s 4 e)) (λ e. many (leb-false s 4 e))
+
 pub lanes-eight : (s : ℕ) → lanesOf s ≤ 8
-lanes-eight s = elim (decLt 4 s) [ yes h ↦ omega (arith, lanes-many s h) | no h ↦ omega (arith, lanes-few s (omega arith)) ]
+lanes-eight s = by-lanes (λ (m : ℕ). m ≤ 8) s (λ h. omega arith) (λ h. omega arith)
 
 -- The loops reach over every site, and no further than the next row.
 pub reach-least : (s : ℕ) → s ≤ 8 → s ≤ reach s
 unfolding paired
-reach-least s few = elim (decLt 4 s) [ yes h ↦ omega (arith, lanes-many s h) | no h ↦ omega (arith, lanes-few s (omega arith)) ]
+reach-least s few = by-lanes (λ (m : ℕ). s ≤ paired m) s (λ h. omega arith) (λ h. omega arith)
 
 pub reach-most : (s : ℕ) → 1 ≤ s → reach s ≤ s + s
 unfolding paired
-reach-most s some = elim (decLt 4 s) [ yes h ↦ omega (arith, lanes-many s h) | no h ↦ omega (arith, lanes-few s (omega arith)) ]
+reach-most s some = by-lanes (λ (m : ℕ). paired m ≤ s + s) s (λ h. omega arith) (λ h. omega arith)
 
 pub reach-eight : (s : ℕ) → reach s ≤ 8
 reach-eight s = paired-eight (lanesOf s) (lanes-eight s)
