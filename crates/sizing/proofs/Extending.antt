@@ -2,20 +2,19 @@
 use Prim.Native.Nat.{ℕ, _+_, _-_, _^_, _<_}
 use native.Mathlib.Decide.{decLt}
 use native.Mathlib.Omega.{arith}
-use mathlib.Core.Path.{_≡_, sym, ap, subst, _∙_}
+use mathlib.Core.Path.{_≡_, sym, ap, _∙_}
 use mathlib.Core.Logic.{_⊎_, inl, inr}
 use lib.Bits.{bitOr, bitAnd}
-use lib.ListN.{set}
 use lib.Pow.{lt-of-le-ones, pow-pos, pow-lt}
 use Rattle.relations.specs.declared.Joins.{Joins}
-use Rattle.relations.specs.Sets.{bit, all, lowest}
+use Rattle.relations.specs.Sets.{bit, all}
 use Rattle.relations.specs.Trees.{Tree, Subquery}
-use Rattle.relations.proofs.Bits.{bit-le, bit-or, bit-and, bit-pow-other, le-of-sub, bit-all, bit-more}
+use Rattle.relations.proofs.Bits.{bit-le, bit-or, bit-and, le-of-sub, bit-all, bit-more}
 use Rattle.relations.proofs.Counts.{lowest-pow}
 use Rattle.relations.proofs.Connected.{subquery-range}
 use Rattle.relations.proofs.Walks.{From}
 use Rattle.sizing.specs.Code.{neighbours, above, Adjacent, Waits, Waiting}
-use Rattle.sizing.proofs.Members.{near-means, near-of, not-own, above-means, above-of}
+use Rattle.sizing.proofs.Members.{near-other, near-means, near-of, above-means, above-of}
 use Rattle.sizing.proofs.Waiting.{waits-root}
 use Rattle.sizing.proofs.WaitingMore.{waits-beside, waits-neighbour, waits-either, waits-single}
 
@@ -49,7 +48,7 @@ module _ (J : Joins) (n : ℕ) (t : Tree J n) where
 
       from : (c : ℕ) → Waits J n (2 ^ r) c → bit (bitAnd near (above n (2 ^ r))) c ≡ 1
       from c w =
-          let a : bit near c ≡ 1 = ap (λ (x : ℕ). bit x c) e ∙ near-of J r c (J .count) (w .near) in
+          let a : bit near c ≡ 1 = ap (λ (x : ℕ). bit x c) e ∙ near-of J r c (w .out) (J .count) (w .near) in
           omega (arith, bit-and near (above n (2 ^ r)) c, above-of n (2 ^ r) some below c (w .in-all) (w .out) (w .higher))
 
   module _ (S : ℕ) (s : Subquery J n S) (r : ℕ) (w : Waits J n S r) where
@@ -81,9 +80,9 @@ module _ (J : Joins) (n : ℕ) (t : Tree J n) where
             ]
             go (inr (p, q)) =
                 let m = above-means n S (range .0) (range .1) c q in
-                let a = near-means J r c (J .count) (ap (λ (x : ℕ). bit x c) (sym e) ∙ p) in
-                let other : r ≡ c → ⊥ = λ z. not-own J n t r (subst (λ (x : ℕ). Adjacent J (2 ^ r) x) (sym z) a) in
-                waits-neighbour J n t S s r w c (m .0) (omega (arith, bit-more S r (w .out) c, m .1, bit-pow-other r c other)) (m .2) a
+                let k : bit (neighbours J r) c ≡ 1 = ap (λ (x : ℕ). bit x c) (sym e) ∙ p in
+                waits-neighbour J n t S s r w c (m .0) (omega (arith, bit-more S r (w .out) c, m .1, near-other J r c (J .count))) (m .2)
+                (near-means J r c (J .count) k)
 
         from : (c : ℕ) → Waits J n (S + 2 ^ r) c → bit (bitOr left (bitAnd near (above n S))) c ≡ 1
         from c v = go (waits-either J n t S s r w c v)
@@ -93,6 +92,6 @@ module _ (J : Joins) (n : ℕ) (t : Tree J n) where
                 let p : bit left c ≡ 1 = walk .same c (omega arith) ∙ all-of .each c .1 u in
                 omega (arith, bit-or left (bitAnd near (above n S)) c, bit-le (bitAnd near (above n S)) c)
             go (inr a) =
-                let p : bit near c ≡ 1 = ap (λ (x : ℕ). bit x c) e ∙ near-of J r c (J .count) a in
+                let p : bit near c ≡ 1 = ap (λ (x : ℕ). bit x c) e ∙ near-of J r c (omega (arith, bit-more S r (w .out) c, v .out)) (J .count) a in
                 let q = above-of n S (range .0) (range .1) c (v .in-all) (omega (arith, bit-more S r (w .out) c, v .out)) (omega (arith, waits-root J n t S s r w, v .higher)) in
                 omega (arith, bit-or left (bitAnd near (above n S)) c, bit-and near (above n S) c, bit-le left c)

@@ -3,17 +3,12 @@ use Prim.Native.Nat.{ℕ, zero, suc, _+_, _≤_, _<_}
 use native.Mathlib.Nat.{eq-or-lt-of-le}
 use native.Mathlib.Decide.{decLt}
 use native.Mathlib.Omega.{arith}
-use mathlib.Core.Path.{_≡_, refl, sym, ap, _∙_}
+use mathlib.Core.Path.{_≡_, sym, ap, _∙_}
 use mathlib.Core.Bool.{Bool, true, false}
 use mathlib.Core.Logic.{inl, inr}
 use Rattle.relations.proofs.Leads.{never-both}
 use Rattle.query.proofs.Choice.{pick-all}
 use Rattle.sizing.specs.Worked.{lowestWhere}
-
--- A test that cannot pass fails.
-pub false-of : (b : Bool) → (b ≡ true → ⊥) → b ≡ false
-false-of true h = absurd (h refl)
-false-of false h = refl
 
 module _ (test : ℕ → Bool) where
   pub where-found : (k i : ℕ) → lowestWhere test k i < i + k → test (lowestWhere test k i) ≡ true

@@ -1,93 +1,94 @@
 -- What the members are of the neighbours of a relation, and of the relations above the lowest of a set.
-use Prim.Native.Nat.{ℕ, zero, suc, _+_, _-_, _^_, _≤_, _<_, max}
+use Prim.Native.Nat.{ℕ, zero, suc, _+_, _-_, _^_, _≤_, _<_, min, max}
 use native.Mathlib.Nat.{eq-or-lt-of-le, le-of-suc-le-suc}
 use native.Mathlib.Decide.{decLt}
 use native.Mathlib.Omega.{arith}
 use mathlib.Core.Path.{_≡_, refl, sym, ap, subst, _∙_}
 use mathlib.Core.Bool.{Bool, true, false}
 use mathlib.Core.Logic.{inl, inr}
-use lib.Bits.{bitOr}
 use lib.Dec.{eqb}
-use borrow.Author.Tests.{eqb-true, eq-eqb}
-use Rattle.relations.specs.Code.{orNone}
+use borrow.Author.Tests.{eqb-true, eqb-false}
+use Rattle.relations.specs.Code.{endsOf, orNone}
 use Rattle.relations.specs.declared.Joins.{Joins}
 use Rattle.relations.specs.Sets.{bit, Sub, Apart, all, lowest}
 use Rattle.relations.specs.Growth.{first, second}
-use Rattle.relations.specs.Trees.{Tree, side}
-use Rattle.relations.proofs.Bits.{bit-le, bit-or, bit-add, bit-sub, bit-none, bit-pow, bit-all, bit-high, all-below, sub-all, le-of-sub, pow-cases}
+use Rattle.relations.proofs.Bits.{bit-le, bit-or, bit-add, bit-sub, bit-put, bit-none, bit-pow, bit-all, bit-high, all-below, sub-all, sub-single, le-of-sub, pow-cases}
 use Rattle.relations.proofs.Counts.{lowest-in, below-lowest, lowest-below}
-use Rattle.relations.proofs.Leads.{never-both}
-use Rattle.relations.proofs.Trees.{side-first, side-second}
-use Rattle.sizing.specs.Code.{neighboursBelow, above, AdjacentBy, Adjacent}
+use Rattle.sizing.specs.Code.{otherEnd, neighboursBelow, above, AdjacentBy}
 use Rattle.sizing.proofs.Adjacent.{Linked, linked, links-of}
 
--- One relation, where a test holds.
-none-or : (d : Bool) (s c : ℕ) → bit (orNone d (2 ^ s)) c ≡ 1 → (d ≡ true) × (s ≡ c)
-none-or true s c h = elim (pow-cases s c) [ inl (e, one) ↦ (refl, e) | inr none ↦ absurd (omega arith) ]
-none-or false s c h = absurd (omega (arith, bit-none c))
+-- The members of the other end of a join.
+other-bit : (M r c : ℕ) → bit (otherEnd M r) c ≡ min (bit M r) (bit M c - bit (2 ^ r) c)
+other-bit M r c = go (eqb (bit M r) 1) refl
+  where
+    go : (d : Bool) → eqb (bit M r) 1 ≡ d → bit (orNone d (M - 2 ^ r)) c ≡ min (bit M r) (bit M c - bit (2 ^ r) c)
+    go true e = let h = eqb-true (bit M r) 1 e in omega (arith, bit-sub (2 ^ r) M (sub-single M r h) c, bit-le M c)
+    go false e = let h = eqb-false (bit M r) 1 e in omega (arith, bit-none c, bit-le M r)
 
-or-none : (d : Bool) (s c : ℕ) → d ≡ true → s ≡ c → bit (orNone d (2 ^ s)) c ≡ 1
-or-none true s c h e = subst (λ (x : ℕ). bit (2 ^ s) x ≡ 1) e (bit-pow s)
-or-none false s c h e = absurd (never-both false h refl)
+-- Of two relations each alone holds the other where they are the same: so the ends of a join hold its two relations.
+same-one : (a b : ℕ) → bit (2 ^ a) b ≡ bit (2 ^ b) a
+same-one a b = elim (pow-cases a b) [
+  | inl (e, one) ↦ subst (λ (x : ℕ). bit (2 ^ a) x ≡ bit (2 ^ x) a) e refl
+  | inr none ↦ elim (pow-cases b a) [ inl (e, one) ↦ subst (λ (x : ℕ). bit (2 ^ x) b ≡ bit (2 ^ b) x) e refl | inr neither ↦ none ∙ sym neither ]
+]
 
-the-one : (r x : ℕ) → bit (2 ^ r) x ≡ 1 → x ≡ r
-the-one r x h = elim (pow-cases r x) [ inl (e, one) ↦ sym e | inr none ↦ absurd (omega arith) ]
+ends-bit : (J : Joins) (e x : ℕ) → bit (endsOf J e) x ≡ max (bit (2 ^ x) (first J e)) (bit (2 ^ x) (second J e))
+unfolding endsOf
+ends-bit J e x = omega (arith, bit-put (2 ^ first J e) (second J e) x, same-one x (first J e), same-one x (second J e))
 
 module _ (J : Joins) (r c : ℕ) where
-  -- What join m brings.
+  -- The neighbours by the joins below m, and what join m brings.
+  abbrev near : ℕ → ℕ
+  near = neighboursBelow (endsOf J) r
+
   abbrev brought : ℕ → ℕ
-  brought m = max (bit (orNone (eqb (first J m) r) (2 ^ second J m)) c) (bit (orNone (eqb (second J m) r) (2 ^ first J m)) c)
+  brought m = otherEnd (endsOf J m) r
 
-  next-bit : (m : ℕ) → bit (neighboursBelow J r (suc m)) c ≡ max (bit (neighboursBelow J r m) c) (brought m)
+  next-bit : (m : ℕ) → bit (near (suc m)) c ≡ max (bit (near m) c) (bit (brought m) c)
   unfolding neighboursBelow
-  next-bit m =
-      let A = orNone (eqb (first J m) r) (2 ^ second J m) in
-      let B = orNone (eqb (second J m) r) (2 ^ first J m) in
-      omega (arith, bit-or (bitOr (neighboursBelow J r m) A) B c, bit-or (neighboursBelow J r m) A c)
+  next-bit m = bit-or (near m) (brought m) c
 
-  brings : (m : ℕ) → brought m ≡ 1 → Linked J (2 ^ r) c m
-  brings m h = elim (decLt (bit (orNone (eqb (first J m) r) (2 ^ second J m)) c) 1) [
-    | yes l ↦ (
-        let w = none-or (eqb (second J m) r) (first J m) c (omega arith) in
-        inl (w .1, ap (bit (2 ^ r)) (eqb-true (second J m) r (w .0)) ∙ bit-pow r))
-    | no l ↦ (
-        let w = none-or (eqb (first J m) r) (second J m) c (omega (arith, bit-le (orNone (eqb (first J m) r) (2 ^ second J m)) c)) in
-        inr (w .1, ap (bit (2 ^ r)) (eqb-true (first J m) r (w .0)) ∙ bit-pow r))
-  ]
+  brings : (m : ℕ) → bit (brought m) c ≡ 1 → Linked J (2 ^ r) c m
+  brings m h =
+      let M = endsOf J m in
+      elim (pow-cases c (first J m)) [
+        | inl (e, one) ↦ inl (sym e, omega (arith, other-bit M r c, bit-le M r, bit-le M c, ends-bit J m r, ap (bit (2 ^ r)) e))
+        | inr none ↦ elim (pow-cases c (second J m)) [
+          | inl (e, one) ↦ inr (sym e, omega (arith, other-bit M r c, bit-le M r, bit-le M c, ends-bit J m r, ap (bit (2 ^ r)) e))
+          | inr neither ↦ absurd (omega (arith, other-bit M r c, ends-bit J m c))
+        ]
+      ]
 
-  brought-by : (m : ℕ) → Linked J (2 ^ r) c m → brought m ≡ 1
-  brought-by m (inl (p, q)) =
-      omega (arith, or-none (eqb (second J m) r) (first J m) c (eq-eqb (second J m) r (the-one r (second J m) q)) p, bit-le (orNone (eqb (first J m) r) (2 ^ second J m)) c)
-  brought-by m (inr (p, q)) =
-      omega (arith, or-none (eqb (first J m) r) (second J m) c (eq-eqb (first J m) r (the-one r (first J m) q)) p, bit-le (orNone (eqb (second J m) r) (2 ^ first J m)) c)
+  brought-by : (m : ℕ) → bit (2 ^ r) c ≡ 0 → Linked J (2 ^ r) c m → bit (brought m) c ≡ 1
+  brought-by m out (inl (p, q)) =
+      let M = endsOf J m in
+      omega (arith, other-bit M r c, bit-le M r, bit-le M c, ends-bit J m r, ends-bit J m c, ap (bit (2 ^ c)) p, bit-pow c)
+  brought-by m out (inr (p, q)) =
+      let M = endsOf J m in
+      omega (arith, other-bit M r c, bit-le M r, bit-le M c, ends-bit J m r, ends-bit J m c, ap (bit (2 ^ c)) p, bit-pow c)
 
-  pub near-means : (m : ℕ) → bit (neighboursBelow J r m) c ≡ 1 → AdjacentBy J m (2 ^ r) c
+  -- No relation is its own neighbour.
+  pub near-other : (m : ℕ) → bit (near m) c + bit (2 ^ r) c ≤ 1
+  unfolding neighboursBelow
+  near-other zero = omega (arith, bit-none c, bit-le (2 ^ r) c)
+  near-other (suc m) = omega (arith, next-bit m, near-other m, other-bit (endsOf J m) r c, bit-le (endsOf J m) c)
+
+  pub near-means : (m : ℕ) → bit (near m) c ≡ 1 → AdjacentBy J m (2 ^ r) c
   unfolding neighboursBelow
   near-means zero h = absurd (omega (arith, bit-none c))
-  near-means (suc m) h = elim (decLt (bit (neighboursBelow J r m) c) 1) [
+  near-means (suc m) h = elim (decLt (bit (near m) c) 1) [
     | yes l ↦ (m, omega arith, links-of J (2 ^ r) c m (brings m (omega (arith, next-bit m))))
-    | no l ↦ (let w = near-means m (omega (arith, bit-le (neighboursBelow J r m) c)) in (w .0, omega (arith, w .1), w .2))
+    | no l ↦ (let w = near-means m (omega (arith, bit-le (near m) c)) in (w .0, omega (arith, w .1), w .2))
   ]
 
-  pub near-of : (m : ℕ) → AdjacentBy J m (2 ^ r) c → bit (neighboursBelow J r m) c ≡ 1
-  near-of zero (e, l, h) = absurd (omega arith)
-  near-of (suc m) (e, l, h) = elim (eq-or-lt-of-le (le-of-suc-le-suc l)) [
+  pub near-of : bit (2 ^ r) c ≡ 0 → (m : ℕ) → AdjacentBy J m (2 ^ r) c → bit (near m) c ≡ 1
+  near-of out zero (e, l, h) = absurd (omega arith)
+  near-of out (suc m) (e, l, h) = elim (eq-or-lt-of-le (le-of-suc-le-suc l)) [
     | inl q ↦ (
-        let b = brought-by m (subst (λ (x : ℕ). Linked J (2 ^ r) c x) q (linked J (2 ^ r) c e h)) in
-        omega (arith, next-bit m, bit-le (neighboursBelow J r m) c))
-    | inr k ↦ omega (arith, next-bit m, near-of m (e, k, h), bit-le (neighboursBelow J r (suc m)) c)
+        let b = brought-by m out (subst (λ (x : ℕ). Linked J (2 ^ r) c x) q (linked J (2 ^ r) c e h)) in
+        omega (arith, next-bit m, bit-le (near m) c))
+    | inr k ↦ omega (arith, next-bit m, near-of out m (e, k, h), bit-le (near (suc m)) c)
   ]
-
--- In a tree no relation is its own neighbour.
-pub not-own : (J : Joins) (n : ℕ) → Tree J n → (r : ℕ) → Adjacent J (2 ^ r) r → ⊥
-not-own J n t r (e, l, h) = go (linked J (2 ^ r) r e h)
-  where
-    apart : first J e ≡ second J e → ⊥
-    apart q = omega (arith, ap (bit (side J n e)) q, side-first J n t e l, side-second J n t e l)
-
-    go : Linked J (2 ^ r) r e → ⊥
-    go (inl (p, q)) = apart (p ∙ sym (the-one r (second J e) q))
-    go (inr (p, q)) = apart (the-one r (first J e) q ∙ sym p)
 
 -- The relations above the lowest of a set.
 module _ (n S : ℕ) (some : 0 < S) (low : S < 2 ^ n) where
@@ -116,9 +117,6 @@ module _ (n S : ℕ) (some : 0 < S) (low : S < 2 ^ n) where
 
   above-bit : (x : ℕ) → bit (above n S) x ≡ bit (all n) x - (bit S x + bit under x)
   above-bit x = ap (λ (y : ℕ). bit y x) above-is ∙ omega (arith, bit-sub (S + under) (all n) sum-within x, sum-bit x)
-
-  pub above-low : above n S < 2 ^ n
-  above-low = omega (arith, above-is, all-below n)
 
   -- What the code subtracts is there.
   pub above-fits : 2 ^ lowest n S - 1 ≤ all n - S

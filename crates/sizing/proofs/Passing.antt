@@ -56,9 +56,11 @@ module _ (J : Joins) (table rows divisors near : List ℕ) (s : Standing J table
     test : d ≡ isSubquery J (J .count + 1) S
     test = tested J table S end d (s .tabled) is h e
 
-    pub extendable : d ≡ true → Extendable J table rows divisors near l S
+    pub extendable : d ≡ true → Extendable J (J .count + 1) table rows divisors near l S
     extendable t = record {
-      tabled = s .tabled;
+      few = s .tabled .few;
+      tree = s .tabled .tree;
+      entries = s .tabled .entries;
       near-is = s .near-is;
       rows-in = s .rows-in;
       divisors-in = s .divisors-in;
@@ -67,8 +69,10 @@ module _ (J : Joins) (table rows divisors near : List ℕ) (s : Standing J table
       right = reached-here J (J .count + 1) (s .tabled .tree) rows divisors S l (sym test ∙ t) r;
     }
 
-    pub goes-on : (new : Lists) → d ≡ true → Extended J (J .count + 1) rows divisors S l new → Reached J (J .count + 1) rows divisors new (S + 1)
-    goes-on new t x = reached-next J (J .count + 1) (s .tabled .tree) rows divisors S l new (sym test ∙ t) r x
+    pub goes-on :
+        (new : Lists) → d ≡ true → (Extendable J (J .count + 1) table rows divisors near l S → Extended J (J .count + 1) rows divisors S l new) →
+        Reached J (J .count + 1) rows divisors new (S + 1)
+    goes-on new t x = reached-next J (J .count + 1) (s .tabled .tree) rows divisors S l new (sym test ∙ t) r (x (extendable t))
 
     pub passes : d ≡ false → Reached J (J .count + 1) rows divisors l (S + 1)
     passes f = reached-past J (J .count + 1) (s .tabled .tree) rows divisors S l (sym test ∙ f) r

@@ -1,44 +1,52 @@
 -- What the loops over joins and relations lean on: one turn of each is one step of the definition that it computes.
-use Prim.Native.Nat.{ℕ, _+_, _-_, _^_, _≤_, _<_}
+use Prim.Native.Nat.{ℕ, zero, suc, _+_, _-_, _^_, _≤_, _<_}
 use native.Mathlib.Numerals.{add-one}
 use native.Mathlib.Omega.{arith}
 use mathlib.Core.Path.{_≡_, refl, sym, ap, _∙_}
 use mathlib.Core.List.{List}
-use lib.Bits.{bitOr, or-zero-r}
+use lib.Bits.{bitOr}
 use lib.Count.{trailingZeros}
-use lib.Dec.{eqb}
-use lib.ListN.{set}
+use lib.ListN.{getD, set}
 use lib.Pow.{pow-pos}
 use borrow.Author.Tests.{eq-eqb, ne-eqb}
-use Rattle.relations.specs.Code.{Drawn, Listed, orNone}
+use Rattle.relations.specs.Code.{Drawn, Listed, EndsOf, endsOf}
 use Rattle.relations.proofs.Listed.{listed-next, listed-done}
 use Rattle.relations.specs.declared.Joins.{Joins}
-use Rattle.relations.specs.Growth.{first, second}
-use Rattle.relations.specs.Sets.{all, lowest}
+use Rattle.relations.specs.Sets.{bit, all, lowest}
+use Rattle.relations.proofs.Bits.{le-of-sub, sub-single}
 use Rattle.relations.proofs.Counts.{lowest-same, lowest-below}
-use Rattle.sizing.specs.Code.{neighboursBelow, neighbours, above}
+use Rattle.sizing.specs.Code.{otherEnd, neighboursBelow, neighbours, above}
 use Rattle.sizing.proofs.Members.{above-fits}
 
--- A set with one relation more, or not.
-pub one-more : (set a b c one : ℕ) → a ≡ b → one ≡ 2 ^ c → bitOr set one ≡ bitOr set (orNone (eqb a b) (2 ^ c))
-one-more set a b c one e q = rw (eq-eqb a b e, q)
+-- The other end of a join where relation r is one of its ends, and where it is not.
+module _ (M r b : ℕ) (is : b ≡ bit M r) where
+  pub end-there : (one : ℕ) → one ≡ 2 ^ r → b ≡ 1 → one ≤ M
+  end-there one e h = omega (arith, le-of-sub (2 ^ r) M (sub-single M r (sym is ∙ h)))
 
-pub none-more : (set a b c : ℕ) → (a ≡ b → ⊥) → set ≡ bitOr set (orNone (eqb a b) (2 ^ c))
-none-more set a b c d = rw (ne-eqb a b d, or-zero-r)
+  pub end-off : (one : ℕ) → one ≡ 2 ^ r → b ≡ 1 → M - one ≡ otherEnd M r
+  end-off one e h = rw (e, eq-eqb (bit M r) 1 (sym is ∙ h))
+
+  pub end-none : (b ≡ 1 → ⊥) → 0 ≡ otherEnd M r
+  end-none d = rw (ne-eqb (bit M r) 1 (λ h. d (is ∙ h)))
 
 -- The neighbours by no join, by one join more, and by all.
-pub near-none : (J : Joins) (r : ℕ) → 0 ≡ neighboursBelow J r 0
-unfolding neighboursBelow
-near-none J r = refl
+module _ (ends : ℕ → ℕ) (r : ℕ) where
+  pub near-none : 0 ≡ neighboursBelow ends r 0
+  unfolding neighboursBelow
+  near-none = refl
 
-pub near-more :
-    (J : Joins) (r e f s near one both : ℕ) → near ≡ neighboursBelow J r e → f ≡ first J e → s ≡ second J e → one ≡ bitOr near (orNone (eqb f r) (2 ^ s)) →
-    both ≡ bitOr one (orNone (eqb s r) (2 ^ f)) → both ≡ neighboursBelow J r (e + 1)
-unfolding neighboursBelow
-near-more J r e f s near one both p q z u v = v ∙ rw (u, p, q, z, add-one e)
+  pub near-more : (e near other : ℕ) → near ≡ neighboursBelow ends r e → other ≡ otherEnd (ends e) r → bitOr near other ≡ neighboursBelow ends r (e + 1)
+  unfolding neighboursBelow
+  near-more e near other p q = rw (p, q, add-one e)
 
-pub near-done : (J : Joins) (r e near : ℕ) → near ≡ neighboursBelow J r e → e ≤ J .count → J .count ≤ e → near ≡ neighbours J r
-near-done J r e near p h k = let last : e ≡ J .count = omega arith in p ∙ ap (neighboursBelow J r) last
+  pub near-done : (e count near : ℕ) → near ≡ neighboursBelow ends r e → e ≤ count → count ≤ e → near ≡ neighboursBelow ends r count
+  near-done e count near p h k = let last : e ≡ count = omega arith in p ∙ ap (neighboursBelow ends r) last
+
+-- The same ends have the same neighbours.
+near-same : (f g : ℕ → ℕ) (r m : ℕ) → ((e : ℕ) → e < m → f e ≡ g e) → neighboursBelow f r m ≡ neighboursBelow g r m
+unfolding neighboursBelow
+near-same f g r zero h = refl
+near-same f g r (suc m) h = rw (near-same f g r m (λ e l. h e (omega arith)), h m (omega arith))
 
 -- The lowest relation of a set by its word of 64 bits, and what is above it.
 module _ (n S : ℕ) (few : n ≤ 9) (some : 0 < S) (low : S < 2 ^ n) where
@@ -60,8 +68,10 @@ one-there one k e = omega (arith, pow-pos k)
 
 -- One relation's neighbours more.
 pub near-listed :
-    (J : Joins) (l : List ℕ) (r v : ℕ) → Drawn J → Listed l (neighbours J) 9 r → r ≤ J .count → v ≡ neighbours J r → Listed (set l r v) (neighbours J) 9 (r + 1)
-near-listed J l r v d h k e = listed-next l (neighbours J) 9 r v h (omega (arith, d .few)) e
+    (J : Joins) (ends l : List ℕ) (r v : ℕ) → Drawn J → EndsOf J ends (J .count) → Listed l (neighbours J) 9 r → r ≤ J .count →
+    v ≡ neighboursBelow (λ e. getD ends e 0) r (J .count) → Listed (set l r v) (neighbours J) 9 (r + 1)
+near-listed J ends l r v d a h k e =
+    listed-next l (neighbours J) 9 r v h (omega (arith, d .few)) (e ∙ near-same (λ i. getD ends i 0) (endsOf J) r (J .count) (a .each))
 
 pub near-all : (J : Joins) (l : List ℕ) (r : ℕ) → Listed l (neighbours J) 9 r → J .count < r → Listed l (neighbours J) 9 (J .count + 1)
 near-all J l r h k = listed-done l (neighbours J) 9 r (J .count + 1) h (omega arith)

@@ -10,7 +10,6 @@ use lib.Count.{ones}
 use lib.ListN.{getD}
 use Rattle.relations.specs.declared.Joins.{Joins}
 use Rattle.relations.specs.Sets.{bit, lowest}
-use Rattle.relations.specs.Growth.{first}
 use Rattle.relations.specs.Trees.{Tree, Subquery}
 use Rattle.relations.proofs.Bits.{bit-le, bit-pow, bit-more, sub-more, more-cases}
 use Rattle.relations.proofs.Counts.{lowest-in, lowest-least, lowest-is, ones-more}

@@ -13,7 +13,6 @@ use mir.Syntax.{w64}
 use mir.Val.{Fits}
 use Rattle.relations.specs.Code.{mostSets}
 use Rattle.relations.specs.declared.Joins.{Joins}
-use Rattle.relations.specs.Sets.{lowest}
 use Rattle.relations.specs.Trees.{Subquery}
 use Rattle.relations.specs.Table.{joinBits}
 use Rattle.relations.proofs.Counts.{lowest-pow}
@@ -38,12 +37,9 @@ pub record Extending (J : Joins) (n : ℕ) (rows divisors : List ℕ) (S : ℕ) 
   pub right : (c : ℕ) → Waits J n S c → c < at → Right J n rows divisors new (S + 2 ^ c)
   pub each : (X : ℕ) → Same old new X ⊎ ((c : ℕ) × Waits J n S c × (X ≡ S + 2 ^ c))
 
-module _ (J : Joins) (table rows divisors near : List ℕ) (S : ℕ) (old : Lists) (a : Extendable J table rows divisors near old S) where
-  abbrev n : ℕ
-  n = J .count + 1
-
+module _ {J : Joins} {n : ℕ} {table rows divisors near : List ℕ} {S : ℕ} {old : Lists} (a : Extendable J n table rows divisors near old S) where
   nine : n ≤ 9
-  nine = omega (arith, a .tabled .few)
+  nine = omega (arith, a .few, a .tree .joins)
 
   pub above-asks : (n ≤ 9) × ((0 < S) × (S < 2 ^ n))
   above-asks = (nine, subquery-range J n S (a .subquery))
@@ -61,7 +57,7 @@ module _ (J : Joins) (table rows divisors near : List ℕ) (S : ℕ) (old : List
     each = λ X. inl (record { size = refl; waiting = refl });
   }
 
-  module _ (new : Lists) (left : ℕ) (x : Extending J n rows divisors S old new left) where
+  module _ {new : Lists} {left : ℕ} (x : Extending J n rows divisors S old new left) where
     word : left < 2 ^ 64
     word = omega (arith, x .low, pow-mono {i = n} {j = 9} nine)
 
@@ -94,7 +90,7 @@ module _ (J : Joins) (table rows divisors near : List ℕ) (S : ℕ) (old : List
       next-less = one-less (getD (old .waiting) S 0) left (x .at) (x .from) some word
 
       more : Subquery J n (S + 2 ^ r)
-      more = waits-subquery J n (a .tabled .tree) S (a .subquery) r next-waits
+      more = waits-subquery J n (a .tree) S (a .subquery) r next-waits
 
       pub more-place : (one X : ℕ) → one ≡ 2 ^ r → X ≡ S + one → X < mostSets
       more-place one X e q = rw (q, e) (place-in n (S + 2 ^ r) nine (subquery-range J n (S + 2 ^ r) more .1))
@@ -104,13 +100,13 @@ module _ (J : Joins) (table rows divisors near : List ℕ) (S : ℕ) (old : List
 
       -- The joins that the table holds for S and for S with r.
       held-is : (X held : ℕ) → X < 2 ^ n → held ≡ getD table X 0 % 256 → held ≡ joinBits J X (J .count)
-      held-is X held l e = e ∙ ap (λ (y : ℕ). y % 256) (a .tabled .entries .each X l) ∙ entry-joins J X (a .tabled .few)
+      held-is X held l e = e ∙ ap (λ (y : ℕ). y % 256) (a .entries .each X l) ∙ entry-joins J X (a .few)
 
       joins-by :
           (one X held now : ℕ) → one ≡ 2 ^ r → X ≡ S + one → held ≡ getD table S 0 % 256 → now ≡ getD table X 0 % 256 → now ≡ held + 2 ^ joinTo J S r
       joins-by one X held now e q h k =
           let is : X ≡ S + 2 ^ r = rw (q, e) in
-          held-is X now (rw is (subquery-range J n (S + 2 ^ r) more .1)) k ∙ rw is (more-joins J n (a .tabled .tree) S (a .subquery) r next-waits)
+          held-is X now (rw is (subquery-range J n (S + 2 ^ r) more .1)) k ∙ rw is (more-joins J n (a .tree) S (a .subquery) r next-waits)
           ∙ ap (λ (y : ℕ). y + 2 ^ joinTo J S r) (sym (held-is S held (set-in .1) h))
 
       -- Where its divisor stands, and what the new size asks.
@@ -121,10 +117,10 @@ module _ (J : Joins) (table rows divisors near : List ℕ) (S : ℕ) (old : List
         pub join-is : trailingZeros 64 (now - held) ≡ joinTo J S r
         join-is =
             let alone : now - held ≡ 2 ^ joinTo J S r = omega (arith, joins-by one X held now e q h k) in
-            ap (trailingZeros 64) alone ∙ lowest-pow 64 (joinTo J S r) (omega (arith, join-low J n (a .tabled .tree) S (a .subquery) r next-waits, nine))
+            ap (trailingZeros 64) alone ∙ lowest-pow 64 (joinTo J S r) (omega (arith, join-low J n (a .tree) S (a .subquery) r next-waits, nine))
 
         pub join-few : trailingZeros 64 (now - held) < 9
-        join-few = omega (arith, join-is, join-low J n (a .tabled .tree) S (a .subquery) r next-waits, nine)
+        join-few = omega (arith, join-is, join-low J n (a .tree) S (a .subquery) r next-waits, nine)
 
         pub joined-asks :
             ((getD (old .sizes) S 0 ≤ mostSize) × (getD rows r 0 ≤ 1_000_000))
@@ -136,7 +132,7 @@ module _ (J : Joins) (table rows divisors near : List ℕ) (S : ℕ) (old : List
 
       new-waiting : (one X up : ℕ) → one ≡ 2 ^ r → X ≡ S + one → up ≡ above n S → Waiting J n X (bitOr (left - one) (bitAnd (getD near r 0) up))
       new-waiting one X up e q u =
-          rw (q, e, u) (more-waiting J n (a .tabled .tree) S (a .subquery) r next-waits (getD (old .waiting) S 0) (left - 2 ^ r) (getD near r 0) (a .right .waiting)
+          rw (q, e, u) (more-waiting J n (a .tree) S (a .subquery) r next-waits (getD (old .waiting) S 0) (left - 2 ^ r) (getD near r 0) (a .right .waiting)
           (from-next (getD (old .waiting) S 0) left (x .at) (x .from) some word (2 ^ r) refl) (a .near-is .each r (next-waits .in-all)))
 
       pub extending-next :
@@ -148,7 +144,7 @@ module _ (J : Joins) (table rows divisors near : List ℕ) (S : ℕ) (old : List
           let is : X ≡ S + 2 ^ r = rw (q, e) in
           let waits : Waiting J n X w = new-waiting one X up e q u in
           let worked : size ≡ workedSize J n rows divisors X =
-          z ∙ rw (join-is one X held now e q h k, a .right .size) (sym (ap (workedSize J n rows divisors) is ∙ waits-size J n (a .tabled .tree) S (a .subquery) r next-waits rows divisors)) in
+          z ∙ rw (join-is one X held now e q h k, a .right .size) (sym (ap (workedSize J n rows divisors) is ∙ waits-size J n (a .tree) S (a .subquery) r next-waits rows divisors)) in
           let here = stored-right J n rows divisors new X size w (x .long) (more-place one X e q) worked waits in
           record {
             at = r + 1;

@@ -9,12 +9,11 @@ use lib.Bits.{bitOr}
 use lib.Count.{ones}
 use lib.Dec.{eqb}
 use lib.ListN.{length, getD}
-use Rattle.relations.specs.Code.{Listed, mostSets, orNone}
+use Rattle.relations.specs.Code.{Listed, mostSets, endsOf, orNone}
 use Rattle.relations.specs.declared.Joins.{Joins}
 use Rattle.relations.specs.Sets.{bit, all, lowest}
-use Rattle.relations.specs.Growth.{first, second}
 use Rattle.relations.specs.Trees.{Subquery, Tree}
-use Rattle.relations.specs.Table.{Tabled}
+use Rattle.relations.specs.Table.{TableOf}
 use Rattle.query.specs.Query.{UpTo}
 use Rattle.sizing.specs.Worked.{links, next, takenAfter, workedSize}
 
@@ -23,14 +22,17 @@ pub record Counts (l : List ℕ) : Type 0 where
   pub some : (i : ℕ) → i < 9 → 1 ≤ getD l i 0
   pub most : UpTo 1_000_000 l
 
--- The relations that the joins below m link with relation r, as a set.
-unfoldable pub neighboursBelow : Joins → (r m : ℕ) → ℕ
-neighboursBelow J r zero = 0
-neighboursBelow J r (suc m) =
-    bitOr (bitOr (neighboursBelow J r m) (orNone (eqb (first J m) r) (2 ^ second J m))) (orNone (eqb (second J m) r) (2 ^ first J m))
+-- The other end of a join, as a set, where relation r is one of its ends; else none.
+abbrev pub otherEnd : (ends r : ℕ) → ℕ
+otherEnd ends r = orNone (eqb (bit ends r) 1) (ends - 2 ^ r)
+
+-- The relations that the joins below m link with relation r, as a set, by the ends of each join.
+unfoldable pub neighboursBelow : (ends : ℕ → ℕ) → (r m : ℕ) → ℕ
+neighboursBelow ends r zero = 0
+neighboursBelow ends r (suc m) = bitOr (neighboursBelow ends r m) (otherEnd (ends m) r)
 
 abbrev pub neighbours : Joins → ℕ → ℕ
-neighbours J r = neighboursBelow J r (J .count)
+neighbours J r = neighboursBelow (endsOf J) r (J .count)
 
 -- The relations above the lowest of S that are not in S, as a set.
 unfoldable pub above : (n S : ℕ) → ℕ
@@ -98,11 +100,13 @@ pub record Startable (J : Joins) (near : List ℕ) (l : Lists) : Type 0 where
   pub near-is : Listed near (neighbours J) 9 (J .count + 1)
   pub long : Long l
 
-pub record Extendable (J : Joins) (table rows divisors near : List ℕ) (l : Lists) (S : ℕ) : Type 0 where
-  pub tabled : Tabled J table
-  pub near-is : Listed near (neighbours J) 9 (J .count + 1)
+pub record Extendable (J : Joins) (n : ℕ) (table rows divisors near : List ℕ) (l : Lists) (S : ℕ) : Type 0 where
+  pub few : J .count ≤ 8
+  pub tree : Tree J n
+  pub entries : TableOf J table (2 ^ n)
+  pub near-is : Listed near (neighbours J) 9 n
   pub rows-in : Counts rows
   pub divisors-in : Counts divisors
   pub long : Long l
-  pub subquery : Subquery J (J .count + 1) S
-  pub right : Right J (J .count + 1) rows divisors l S
+  pub subquery : Subquery J n S
+  pub right : Right J n rows divisors l S

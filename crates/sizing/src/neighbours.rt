@@ -1,36 +1,35 @@
 // The relations that a relation is joined with.
 use relations::Joins;
+use relations::bit;
+use relations::ends;
 use relations::single;
-use relations::wide;
-ghost use Prim.Native.Nat.{_+_, _^_, _<_};
+ghost use Prim.Native.Nat.{ℕ, _+_, _≤_, _<_};
 ghost use mathlib.Core.Path.{_≡_};
-ghost use lib.Bits.{bitOr};
-ghost use lib.Dec.{eqb};
-ghost use Rattle.relations.specs.Code.{Drawn, Listed, orNone};
-ghost use Rattle.sizing.specs.Code.{neighbours};
+ghost use lib.ListN.{getD};
+ghost use Rattle.relations.specs.Code.{Drawn, Listed};
+ghost use Rattle.sizing.specs.Code.{otherEnd, neighboursBelow, neighbours};
 
-// The set with relation c where the relations a and b are one, else the set as it is.
-fn with_if(set: usize, a: usize, b: usize, c: usize) -> usize
-    requires { ⌜ c < 64 ⌝ }
-    ensures { λ r. ⌜ r ≡ bitOr set (orNone (eqb a b) (2 ^ c)) ⌝ }
+// The other end of a join, as a set, where relation r is one of its ends; else none.
+fn other_end(ends: usize, r: usize) -> usize
+    requires { ⌜ r < 64 ⌝ }
+    ensures { λ v. ⌜ v ≡ otherEnd ends r ⌝ }
 {
-    if a == b {
-        return set | single(c);
+    if bit(ends, r) == 1 {
+        ends - single(r)
+    } else {
+        0
     }
-    set
 }
 
-// The neighbours of relation r, as a set.
-fn neighbours_of(joins: Joins, r: usize) -> usize
-    requires { ⌜ Drawn joins ⌝ }
-    ensures { λ v. ⌜ v ≡ neighbours joins r ⌝ }
+// The neighbours of relation r, as a set, by the ends of each join.
+fn neighbours_of(ends: &[usize; 8], count: usize, r: usize) -> usize
+    requires { ⌜ (count ≤ 8) × (r < 64) ⌝ }
+    ensures { λ v. ⌜ v ≡ neighboursBelow (λ (e : ℕ). getD (now (ends .entry)) e 0) r count ⌝ }
 {
     let mut near = 0;
     let mut e = 0;
-    while e < joins.count {
-        let f = wide(joins.first[e]);
-        let s = wide(joins.second[e]);
-        near = with_if(with_if(near, f, r, s), s, r, f);
+    while e < count {
+        near = near | other_end(ends[e], r);
         e += 1;
     }
     near
@@ -41,10 +40,11 @@ pub(crate) fn neighbours(joins: Joins) -> [usize; 9]
     requires { ⌜ Drawn joins ⌝ }
     ensures { λ l. ⌜ Listed l (neighbours joins) 9 (joins .count + 1) ⌝ }
 {
+    let around = ends(joins);
     let mut near = [0usize; 9];
     let mut r = 0;
     while r <= joins.count {
-        near[r] = neighbours_of(joins, r);
+        near[r] = neighbours_of(&around, joins.count, r);
         r += 1;
     }
     near

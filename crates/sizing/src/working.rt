@@ -13,6 +13,7 @@ ghost use Prim.Native.Nat.{ℕ, _+_, _^_, _≤_, _<_};
 ghost use mathlib.Core.List.{List};
 ghost use mathlib.Core.Path.{_≡_};
 ghost use lib.ListN.{replicate};
+ghost use Rattle.relations.specs.declared.Joins.{Joins};
 ghost use Rattle.relations.specs.Code.{mostSets};
 ghost use Rattle.relations.specs.Table.{Tabled};
 ghost use Rattle.sizing.specs.Worked.{workedSizes};
@@ -50,8 +51,9 @@ fn begin(
 }
 
 // From a subquery to those with one of the relations that wait for it. For these wait the higher ones that waited beside it, and its own neighbours.
+// Of the joins it takes n, the number of relations, alone: the list would be copied for each subquery.
 fn extend(
-    joins: Joins,
+    n: usize,
     table: &[u32; SETS],
     rows: &[u32; 9],
     divisors: &[u32; 9],
@@ -60,10 +62,12 @@ fn extend(
     sizes: &mut [u32; SETS],
     set: usize,
 )
-    requires { ⌜ Extendable joins (now table) (now rows) (now divisors) (now near) (listsOf (now sizes) (now waiting)) set ⌝ }
+    requires { ⌜ ((J : Joins) × Extendable J n (now table) (now rows) (now divisors) (now near) (listsOf (now sizes) (now waiting)) set) ⌝ }
     ensures { λ _.
-        ⌜ Extended joins (joins .count + 1) (now (rows .entry)) (now (divisors .entry)) set
-        (listsOf (now (sizes .entry)) (now (waiting .entry))) (listsOf (now (sizes .exit)) (now (waiting .exit))) ⌝ }
+        ⌜ ((J : Joins) → Extendable J n (now (table .entry)) (now (rows .entry)) (now (divisors .entry)) (now (near .entry))
+        (listsOf (now (sizes .entry)) (now (waiting .entry))) set →
+        Extended J n (now (rows .entry)) (now (divisors .entry)) set
+        (listsOf (now (sizes .entry)) (now (waiting .entry))) (listsOf (now (sizes .exit)) (now (waiting .exit)))) ⌝ }
 {
     let size = sizes[set];
     let held = joins_in(table[set]);
@@ -75,7 +79,7 @@ fn extend(
         let more = set + one;
         let e = usize::trailing_zeros(joins_in(table[more]) - held) as usize;
         sizes[more] = joined_size(size, rows[r], divisors[e]);
-        waiting[more] = left | near[r] & above(joins.count + 1, set);
+        waiting[more] = left | near[r] & above(n, set);
     }
 }
 
@@ -99,7 +103,7 @@ pub fn work_out(
     while set < single(joins.count + 1) {
         if is_connected(table[set]) {
             extend(
-                joins,
+                joins.count + 1,
                 table,
                 rows,
                 divisors,

@@ -36,17 +36,18 @@ work-out-spec =
     (λ c. let i = c .before .before .before in place-scaled _ _ (set-place _ _ _ _ _ (i .loop .inv .0) _ _ (c .if1 .taken) (c .before .single .ensures)) (omega arith))
     (λ c. let i = c .before .before .before in set-place _ _ _ _ _ (i .loop .inv .0) _ _ (c .if1 .taken) (c .before .single .ensures))
     (λ c κs. search needs)
+    (λ c. search needs)
     (λ c κs.
-    let k = c .before .before .before .before in let o = k .before .before in let i = o .before .before .before in
-    extendable _ _ _ _ _ (i .loop .inv .0) _ _ _ (o .if1 .taken) (o .before .single .ensures) (i .loop .inv .1 .1) _ (k .is-connected .ensures) (c .before .before .before .if2 .taken))
+    let k = c .before .before .before .before .before in let o = k .before .before in let i = o .before .before .before in
+    (_, extendable _ _ _ _ _ (i .loop .inv .0) _ _ _ (o .if1 .taken) (o .before .single .ensures) (i .loop .inv .1 .1) _ (k .is-connected .ensures) (c .before .before .before .before .if2 .taken)))
     (λ c. search needs)
     (λ c. search needs)
     (λ c.
-    let y = c .before .before .before .before in let k = y .before in let o = k .before .before in let i = o .before .before .before in (
+    let y = c .before .before .before .before .before in let k = y .before in let o = k .before .before in let i = o .before .before .before in (
       i .loop .inv .0,
       (
         omega (arith, o .if1 .taken, o .before .single .ensures),
-        goes-on _ _ _ _ _ (i .loop .inv .0) _ _ _ (o .if1 .taken) (o .before .single .ensures) (i .loop .inv .1 .1) _ (k .is-connected .ensures) _ (y .if2 .taken) (c .extend .ensures),
+        goes-on _ _ _ _ _ (i .loop .inv .0) _ _ _ (o .if1 .taken) (o .before .single .ensures) (i .loop .inv .1 .1) _ (k .is-connected .ensures) _ (y .if2 .taken) (c .extend .ensures _),
       ),
     ))
     (λ c. search needs)
