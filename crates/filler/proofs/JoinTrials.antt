@@ -25,7 +25,7 @@ use Rattle.tables.specs.Least.{best, least}
 use Rattle.tables.specs.Tables.{firstPart, otherPart, byJoin, joinedBy, delivered, joined}
 use Rattle.tables.specs.Theorems.{mostCost}
 use Rattle.board.specs.Figures.{noneMark, mark, leastOf, placeOf}
-use Rattle.filler.specs.Trials.{Lent, trialOf, partBy, joinTrial, joinedIn}
+use Rattle.filler.specs.Trials.{Lent, trialOf, partsAt, joinTrial, joinedIn}
 use Rattle.filler.specs.Filling.{LaidOut, Filled}
 use Rattle.filler.proofs.Marks.{Shows, Kept, shows-mark, shows-both, kept-all, kept-rest, none-kept}
 use Rattle.filler.proofs.Boards.{price-is, price-none}
@@ -78,7 +78,7 @@ module _ (combine : ℕ → ℕ → ℕ) (C : Combines combine) (q : Query) (l :
   unfolding joinTrial
   join-case X k e here out = go (eqb (bit joins e) 1) refl
     where
-      go : (b : Bool) → eqb (bit joins e) 1 ≡ b → X (pick b (trialOf combine l (partBy l S e) (S - partBy l S e) k) noneMark)
+      go : (b : Bool) → eqb (bit joins e) 1 ≡ b → X (pick b (trialOf combine l (partsAt l S e .first) (partsAt l S e .second) k) noneMark)
       go true one =
           let found = join-of-bit (q .joins) S (q .joins .count) e (eqb-true (bit joins e) 1 one) in
           rw (part-of q l laid S s e (found .0) (found .1)) (here (found .0) (found .1))

@@ -8,11 +8,10 @@ use lib.Bits.{bitAnd}
 use lib.Pow.{pow-mono}
 use Rattle.relations.specs.Growth.{inside}
 use Rattle.relations.specs.Trees.{Subquery}
-use Rattle.relations.specs.Theorems.{Split}
 use Rattle.relations.specs.Table.{joinBits}
 use Rattle.relations.proofs.Connected.{subquery-range}
 use Rattle.relations.proofs.Entries.{bits-below, join-of-bit}
-use Rattle.relations.proofs.Splits.{split, part-by-side, Smaller, split-smaller}
+use Rattle.relations.proofs.Splits.{part-by-side, grown-split, split-smaller}
 use Rattle.query.specs.declared.Query.{Query}
 use Rattle.query.specs.Query.{relationsOf, sitesOf}
 use Rattle.rules.specs.Combine.{Combines}
@@ -61,8 +60,8 @@ module _ (combine : ℕ → ℕ → ℕ) (C : Combines combine) (q : Query) (l :
 
   pub parts-of : (e k : ℕ) → e < q .joins .count → inside (q .joins) S e ≡ true → k < sitesOf q → Parts (firstPart q S e) (otherPart q S e) k
   parts-of e k h within site =
-      let parts : Split (q .joins) (relationsOf q) S e = split (q .joins) (relationsOf q) (laid .valid .tree) S e s h within in
-      let small : Smaller S (firstPart q S e) (otherPart q S e) = split-smaller (q .joins) (relationsOf q) S e parts in
+      let parts = grown-split (q .joins) (relationsOf q) (laid .valid .tree) S e s h within in
+      let small = split-smaller (q .joins) (relationsOf q) S e _ parts in
       record {
         site-in = site;
         whole = parts .whole;
@@ -84,8 +83,8 @@ module _ (combine : ℕ → ℕ → ℕ) (C : Combines combine) (q : Query) (l :
 
   triable : (e k : ℕ) → e < q .joins .count → inside (q .joins) S e ≡ true → k < reach (sitesOf q) → Triable l (firstPart q S e) (otherPart q S e) k
   triable e k h within low =
-      let parts : Split (q .joins) (relationsOf q) S e = split (q .joins) (relationsOf q) (laid .valid .tree) S e s h within in
-      let small : Smaller S (firstPart q S e) (otherPart q S e) = split-smaller (q .joins) (relationsOf q) S e parts in
+      let parts = grown-split (q .joins) (relationsOf q) (laid .valid .tree) S e s h within in
+      let small = split-smaller (q .joins) (relationsOf q) S e _ parts in
       let bounded : S < 2 ^ relationsOf q = subquery-range (q .joins) (relationsOf q) S s .1 in
       record {
         priced = priced q l laid (firstPart q S e) (otherPart q S e) k (subquery-range (q .joins) (relationsOf q) (firstPart q S e) (parts .first-part) .1)

@@ -1,14 +1,15 @@
 -- What a trial is: two parts of a subquery, each delivered at a site, and the price of their join there. And the rows of figures that the loops
 -- work out from trials and lines. `proofs/` shows that those figures are the two tables'.
-use Prim.Native.Nat.{ℕ, _+_, _-_, _≤_, _<_}
+use Prim.Native.Nat.{ℕ, _+_, _≤_, _<_}
 use mathlib.Core.Path.{_≡_}
 use mathlib.Core.List.{List}
-use lib.Bits.{bitAnd}
 use lib.Count.{ones, trailingZeros}
 use lib.Dec.{eqb}
 use lib.ListN.{length, getD}
+use Rattle.relations.specs.declared.splitting.Parts.{Parts}
 use Rattle.relations.specs.Code.{mostSets, Listed}
 use Rattle.relations.specs.Sets.{bit}
+use Rattle.relations.specs.Splits.{partsBy}
 use Rattle.query.specs.Choice.{pick}
 use Rattle.query.specs.Query.{UpTo}
 use Rattle.query.specs.Prices.{lineCharge, reads, joinCharge}
@@ -61,9 +62,9 @@ pub record Triable (l : Lent) (P R k : ℕ) : Type 0 where
   pub first-cell : cellIn l P k ≤ noneMark
   pub second-cell : cellIn l R k ≤ noneMark
 
--- The part of S on the first relation's side of join e.
-abbrev pub partBy : Lent → ℕ → ℕ → ℕ
-partBy l S e = bitAnd S (sideAt (l .board) e)
+-- The two parts of S by join e, whose side the board has.
+abbrev pub partsAt : Lent → (S e : ℕ) → Parts
+partsAt l S e = partsBy S (sideAt (l .board) e)
 
 -- A row whose first s lanes, one for each site, are g 0, g 1, ..
 abbrev pub AtSites : (s : ℕ) → List ℕ → (ℕ → ℕ) → Type 0
@@ -81,14 +82,14 @@ pub record TriedFrom (old new : List ℕ) (g : ℕ → ℕ) (site m : ℕ) : Typ
 
 -- The figure of join e of S at site k, the joins in S given as bits: none where e is not among them.
 unfoldable pub joinTrial : (ℕ → ℕ → ℕ) → Lent → (joins S k e : ℕ) → ℕ
-joinTrial combine l joins S k e = pick (eqb (bit joins e) 1) (trialOf combine l (partBy l S e) (S - partBy l S e) k) noneMark
+joinTrial combine l joins S k e = pick (eqb (bit joins e) 1) (trialOf combine l (partsAt l S e .first) (partsAt l S e .second) k) noneMark
 
 -- What the joins of a set ask.
 pub record Joinable (l : Lent) (joins S : ℕ) : Type 0 where
   pub few : joins < 256
   pub some-site : 1 ≤ sitesAt (l .board)
   pub few-sites : sitesAt (l .board) ≤ 8
-  pub each : (e k : ℕ) → e < 8 → k < reach (sitesAt (l .board)) → bit joins e ≡ 1 → Triable l (partBy l S e) (S - partBy l S e) k
+  pub each : (e k : ℕ) → e < 8 → k < reach (sitesAt (l .board)) → bit joins e ≡ 1 → Triable l (partsAt l S e .first) (partsAt l S e .second) k
 
 -- The row of the joins: the least at each site.
 abbrev pub joinedIn : (ℕ → ℕ → ℕ) → Lent → (joins S k : ℕ) → ℕ

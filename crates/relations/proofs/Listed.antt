@@ -1,12 +1,15 @@
 -- A list that a loop fills from its first entry on, at every width: each turn stores one entry more and leaves those below it.
 use Prim.Native.Nat.{ℕ, _+_, _≤_, _<_}
-use mathlib.Core.Path.{_≡_, _∙_}
+use mathlib.Core.Path.{_≡_, ap, _∙_}
+use mathlib.Core.Bool.{Bool}
 use mathlib.Core.List.{List}
 use native.Mathlib.Omega.{arith}
 use borrow.Author.Count.{below-none, below-more}
+use borrow.Author.Tests.{lt-ltb}
+use lib.Dec.{ltb}
 use lib.ListN.{length, getD, set, length-set}
 use lib.Seq.{getD-set-same, getD-set-other}
-use Rattle.relations.specs.Code.{Listed}
+use Rattle.relations.specs.Code.{Listed, orNone}
 
 -- A list that has g at the places below k, with g stored at k.
 pub set-next :
@@ -21,10 +24,11 @@ module _ (l : List ℕ) (g : ℕ → ℕ) (n : ℕ) where
   pub listed-next : (k v : ℕ) → Listed l g n k → k < n → v ≡ g k → Listed (set l k v) g n (k + 1)
   listed-next k v r h e = record { long = length-set l k v ∙ r .long; each = set-next l g k v (omega (arith, r .long)) (r .each) e }
 
-  -- The same where the loop ends at s, which the list has room for.
-  pub listed-more : (k s v : ℕ) → Listed l g n k → k < s → s ≤ n → v ≡ g k → Listed (set l k v) g n (k + 1)
-  listed-more k s v r h m e = listed-next k v r (omega arith) e
-
   -- Fewer entries: those up to the loop's end.
   pub listed-done : (k s : ℕ) → Listed l g n k → s ≤ k → Listed l g n s
   listed-done k s r h = record { long = r .long; each = λ i below. r .each i (omega arith) }
+
+  -- The first s entries of a list that is filled whole, with 0 from s on.
+  pub listed-first : (s k : ℕ) → Listed l (λ (i : ℕ). orNone (ltb i s) (g i)) n k → n ≤ k → s ≤ n → Listed l g n s
+  listed-first s k r h m =
+      record { long = r .long; each = λ i below. r .each i (omega arith) ∙ ap (λ (d : Bool). orNone d (g i)) (lt-ltb i s below) }

@@ -1,21 +1,25 @@
 -- The parts of a subquery by a join in it: the first part is what the subquery shares with the join's side, since that is connected and closed,
 -- and each part is connected, as no other join links the two.
-use Prim.Native.Nat.{ℕ, _-_, _^_, _<_, min}
-use mathlib.Core.Path.{_≡_, sym, ap, _∙_, subst}
+use Prim.Native.Nat.{ℕ, _+_, _-_, _^_, _<_, min}
+use mathlib.Core.Path.{_≡_, sym, subst}
+use mathlib.Core.Bool.{true}
 use mathlib.Core.Logic.{inl, inr}
 use native.Mathlib.Decide.{ℕ-discrete}
 use native.Mathlib.Omega.{arith}
 use lib.Bits.{bitAnd}
+use lib.Count.{ones}
 use Rattle.relations.specs.declared.Joins.{Joins}
+use Rattle.relations.specs.declared.splitting.Parts.{Parts}
 use Rattle.relations.specs.Sets.{bit, Sub}
-use Rattle.relations.specs.Growth.{first, second}
-use Rattle.relations.specs.Trees.{Tree, part, rest, side}
-use Rattle.relations.specs.Theorems.{Grown, Split, SplitLaw, PartBySide}
-use Rattle.relations.proofs.Bits.{bit-le, bit-pow, bit-and, bit-less, bit-sub, sub-single, sub-apart, sub-whole, below-of-sub}
-use Rattle.relations.proofs.Counts.{ones-sub, ones-pos}
+use Rattle.relations.specs.Growth.{first, second, inside}
+use Rattle.relations.specs.Trees.{Subquery, Tree, part, rest, side}
+use Rattle.relations.specs.Theorems.{Grown}
+use Rattle.relations.specs.Splits.{partsBy, Split, SplitLaw, PartBySide}
+use Rattle.relations.proofs.Bits.{bit-le, bit-pow, bit-and, bit-less, sub-single, sub-apart, sub-whole, below-of-sub}
+use Rattle.relations.proofs.Counts.{ones-add, ones-pos}
 use Rattle.relations.proofs.Leads.{inside-ends}
 use Rattle.relations.proofs.Growth.{growth-least, grown-unique}
-use Rattle.relations.proofs.Connected.{Conn, conn-of, of-conn, conn-pos, subquery-range, enough}
+use Rattle.relations.proofs.Connected.{Conn, conn-of, of-conn, subquery-range, enough}
 use Rattle.relations.proofs.Trees.{side-first, side-second, side-other}
 use Rattle.relations.proofs.Halves.{Halves, turned, half-conn}
 
@@ -69,33 +73,21 @@ module _ (J : Joins) (n : ℕ) (t : Tree J n) (S e : ℕ) (l : e < J .count) (be
   unfolding masked
   part-masked = grown-unique J S e (2 ^ first J e) (part J n S e) masked (part-grown J n S e below f) masked-grown
 
-  part-within : Sub (part J n S e) S
-  part-within = part-grown J n S e below f .within
+  masked-within : Sub masked S
+  masked-within r = omega (arith, masked-bit r)
 
-  pub bit-part : (r : ℕ) → bit (part J n S e) r ≡ min (bit S r) (bit (side J n e) r)
-  bit-part r = ap (λ (X : ℕ). bit X r) part-masked ∙ bit-and S (side J n e) r
-
-  pub bit-rest : (r : ℕ) → bit (rest J n S e) r ≡ bit S r - bit (side J n e) r
-  bit-rest r = omega (arith, bit-sub (part J n S e) S part-within r, bit-part r, bit-le S r, bit-le (side J n e) r)
-
-  pub conn-split : Split J n S e
+  pub conn-split : Split J n S e (partsBy S (side J n e))
+  unfolding masked
   conn-split =
-      let two = halves (part J n S e) (rest J n S e) bit-part bit-rest in
-      let first-conn = half-conn J S (part J n S e) (rest J n S e) (first J e) (second J e) c two in
-      let second-conn = half-conn J S (rest J n S e) (part J n S e) (second J e) (first J e) c (turned J S (part J n S e) (rest J n S e) (first J e) (second J e) two) in
-      let sum = ones-sub (part J n S e) S part-within in
-      let first-some = ones-pos (part J n S e) (conn-pos J (part J n S e) first-conn) in
-      let second-some = ones-pos (rest J n S e) (conn-pos J (rest J n S e) second-conn) in
+      let two = halves masked (S - masked) masked-bit (bit-less S (side J n e)) in
       record {
-        first-part = of-conn J n (part J n S e) (below-of-sub (part J n S e) S n part-within below) first-conn;
-        second-part = of-conn J n (rest J n S e) (omega (arith, below)) second-conn;
+        first-part = of-conn J n masked (below-of-sub masked S n masked-within below) masked-conn;
+        second-part = of-conn J n (S - masked) (omega (arith, below))
+            (half-conn J S (S - masked) masked (second J e) (first J e) c (turned J S masked (S - masked) (first J e) (second J e) two));
         first-in = two .here;
         second-in = two .there;
-        apart = sub-apart (part J n S e) S part-within;
-        whole = sub-whole (part J n S e) S part-within;
-        count = sum;
-        first-fewer = omega (arith, sum, second-some);
-        second-fewer = omega (arith, sum, first-some);
+        apart = sub-apart masked S masked-within;
+        whole = sub-whole masked S masked-within;
       }
 
 pub split : SplitLaw
@@ -106,20 +98,30 @@ pub part-by-side : PartBySide
 part-by-side J n t S e s l h =
     let ends = inside-ends J S e h in part-masked J n t S e l (subquery-range J n S s .1) (conn-of J n S s) (ends .0) (ends .1)
 
--- Both parts are numbers from 1 to below S.
+-- The same of the parts that growth gives.
+abbrev pub grownParts : Joins → (n S e : ℕ) → Parts
+grownParts J n S e = record { first = part J n S e; second = rest J n S e }
+
+pub grown-split : (J : Joins) (n : ℕ) → Tree J n → (S e : ℕ) → Subquery J n S → e < J .count → inside J S e ≡ true → Split J n S e (grownParts J n S e)
+grown-split J n t S e s l h = rw (part-by-side J n t S e s l h) (split J n t S e s l h)
+
+-- Both parts are numbers below S, and their counts of relations add up to that of S, so that each has fewer.
 pub record Smaller (S P R : ℕ) : Type 0 where
-  pub first-some : 0 < P
-  pub second-some : 0 < R
   pub first-less : P < S
   pub second-less : R < S
+  pub count : ones S ≡ ones P + ones R
+  pub first-fewer : ones P < ones S
+  pub second-fewer : ones R < ones S
 
-pub split-smaller : (J : Joins) (n S e : ℕ) → Split J n S e → Smaller S (part J n S e) (rest J n S e)
-split-smaller J n S e s =
-    let p = subquery-range J n (part J n S e) (s .first-part) in
-    let r = subquery-range J n (rest J n S e) (s .second-part) in
+pub split-smaller : (J : Joins) (n S e : ℕ) (p : Parts) → Split J n S e p → Smaller S (p .first) (p .second)
+split-smaller J n S e p s =
+    let one = subquery-range J n (p .first) (s .first-part) .0 in
+    let other = subquery-range J n (p .second) (s .second-part) .0 in
+    let sum = rw (s .whole) at (ones-add (p .first) (p .second) (s .apart)) in
     record {
-      first-some = p .0;
-      second-some = r .0;
-      first-less = omega (arith, s .whole, r .0);
-      second-less = omega (arith, s .whole, p .0);
+      first-less = omega (arith, s .whole, other);
+      second-less = omega (arith, s .whole, one);
+      count = sum;
+      first-fewer = omega (arith, sum, ones-pos (p .second) other);
+      second-fewer = omega (arith, sum, ones-pos (p .first) one);
     }

@@ -1,6 +1,6 @@
 -- What the code's loops and calls lean on: one turn of each loop is one step of the definition that the loop computes.
 use Prim.Native.Nat.{ℕ, suc, _+_, _^_, _≤_, _<_}
-use mathlib.Core.Path.{_≡_, refl, ap, _∙_}
+use mathlib.Core.Path.{_≡_, refl, ap}
 use mathlib.Core.Bool.{Bool, true, false}
 use mathlib.Core.List.{List}
 use native.Mathlib.Numerals.{add-one}
@@ -58,11 +58,6 @@ ends-in J S e = go (eqb (bit S (first J e) + bit S (second J e)) 2) refl
         ne-eqb (bitAnd S M) M λ q.
         eqb-false (bit S f + bit S s) 2 p
         (omega (arith, ap (λ (x : ℕ). bit x f) q, ap (λ (x : ℕ). bit x s) q, bit-and S M f, bit-and S M s, has-first, has-second, bit-le S f, bit-le S s))
-
--- One join's ends.
-pub ends-are : (J : Joins) (e f s v w : ℕ) → f ≡ first J e → s ≡ second J e → v ≡ 2 ^ f → w ≡ put v s → w ≡ endsOf J e
-unfolding endsOf
-ends-are J e f s v w p r q z = z ∙ rw (q, p, r)
 
 -- No set, one set more, and all of them: the subqueries below.
 pub subqueries-none : (J : Joins) (n : ℕ) → 0 ≡ countBelow J n 0

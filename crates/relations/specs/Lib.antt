@@ -3,5 +3,6 @@ pub mod Growth
 pub mod Trees
 pub mod Stars
 pub mod Theorems
+pub mod Splits
 pub mod Code
 pub mod Table

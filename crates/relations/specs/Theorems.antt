@@ -2,7 +2,6 @@
 use Prim.Native.Nat.{ℕ, _+_, _^_, _≤_, _<_}
 use mathlib.Core.Path.{_≡_}
 use mathlib.Core.Bool.{true, _&&_}
-use lib.Bits.{bitAnd}
 use lib.Count.{ones}
 use lib.Dec.{ltb, eqb}
 use Rattle.relations.specs.declared.Joins.{Joins}
@@ -25,22 +24,6 @@ GrowthLeast = (J : Joins) (S x k A : ℕ) → Sub A S → ones S ≤ ones A + k 
 abbrev pub SideApart : Type 0
 SideApart = (J : Joins) (n : ℕ) → Tree J n → (e : ℕ) → e < J .count → (bit (side J n e) (first J e) ≡ 1) × (bit (side J n e) (second J e) ≡ 0)
 
--- For a subquery and a join in it: the two parts are subqueries, each with one end of the join, share no relation and make up the whole.
--- So their counts of relations add up, and each has fewer relations than the whole.
-pub record Split (J : Joins) (n S e : ℕ) : Type 0 where
-  pub first-part : Subquery J n (part J n S e)
-  pub second-part : Subquery J n (rest J n S e)
-  pub first-in : bit (part J n S e) (first J e) ≡ 1
-  pub second-in : bit (rest J n S e) (second J e) ≡ 1
-  pub apart : Apart (part J n S e) (rest J n S e)
-  pub whole : part J n S e + rest J n S e ≡ S
-  pub count : ones S ≡ ones (part J n S e) + ones (rest J n S e)
-  pub first-fewer : ones (part J n S e) < ones S
-  pub second-fewer : ones (rest J n S e) < ones S
-
-abbrev pub SplitLaw : Type 0
-SplitLaw = (J : Joins) (n : ℕ) → Tree J n → (S e : ℕ) → Subquery J n S → e < J .count → inside J S e ≡ true → Split J n S e
-
 -- Two disjoint subqueries with one end of e each make a subquery whose parts by e they are.
 pub record Union (J : Joins) (n P R e : ℕ) : Type 0 where
   pub subquery : Subquery J n (P + R)
@@ -52,11 +35,6 @@ abbrev pub UnionLaw : Type 0
 UnionLaw =
     (J : Joins) (n : ℕ) → Tree J n → (P R e : ℕ) → Subquery J n P → Subquery J n R → Apart P R → e < J .count → bit P (first J e) ≡ 1 →
     bit R (second J e) ≡ 1 → Union J n P R e
-
--- A split is a mask: the part is what the subquery shares with the join's side, which no subquery changes.
-abbrev pub PartBySide : Type 0
-PartBySide =
-    (J : Joins) (n : ℕ) → Tree J n → (S e : ℕ) → Subquery J n S → e < J .count → inside J S e ≡ true → part J n S e ≡ bitAnd S (side J n e)
 
 -- In a tree a set that is not empty is a subquery exactly when it holds one join fewer than relations: the test that needs no growth.
 abbrev pub SubqueryByCount : Type 0

@@ -41,7 +41,7 @@ pub record Tree (J : Joins) (n : ℕ) : Type 0 where
   pub second-in : (e : ℕ) → e < J .count → second J e < n
   pub reached : reaches J n ≡ true
 
--- The relations on the first relation's side of join e in the whole query. A split is a mask by it: `PartBySide` in `Theorems`.
+-- The relations on the first relation's side of join e in the whole query. A split is a mask by it: `Splits`.
 unfoldable pub side : Joins → ℕ → ℕ → ℕ
 side J n e = part J n (all n) e
 

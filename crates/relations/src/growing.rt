@@ -1,33 +1,26 @@
-// Growth of a set of relations along joins: the part beyond a join, one relation at a time.
-use crate::Joins;
-use crate::member::bit;
-use crate::member::both;
-use crate::member::with;
-use crate::widening::wide;
-ghost use Prim.Native.Nat.{_+_, _≤_, _<_};
+// Growth of a set of relations along joins: the part beyond a join, one relation at a time. A join is the set of its two ends here; the list of them is lent.
+use crate::member::within;
+ghost use Prim.Native.Nat.{_+_, _≤_};
 ghost use mathlib.Core.Path.{_≡_};
-ghost use Rattle.relations.specs.Growth.{leads, along, grow};
-ghost use Rattle.relations.specs.Code.{Ends, FirstLeading, Growable};
+ghost use Rattle.relations.specs.declared.Joins.{Joins};
+ghost use Rattle.relations.specs.Growth.{grow};
+ghost use Rattle.relations.specs.Code.{leadsOut, FirstLeading, Growable};
 
-// Join e leads out of the taken relations, within a set and skipping a join.
-fn leads(joins: Joins, within: usize, skip: usize, taken: usize, e: usize) -> bool
-    requires { ⌜ e < 8 ⌝ }
-    ensures { λ r. ⌜ r ≡ leads joins within skip taken e ⌝ }
+// A join with these ends leads out of the taken relations within a set: it lies in the set, and just one of its ends is taken.
+fn leads_out(ends: usize, set: usize, taken: usize) -> bool
+    ensures { λ r. ⌜ r ≡ leadsOut ends set taken ⌝ }
 {
-    let f = wide(joins.first[e]);
-    let s = wide(joins.second[e]);
-    (e != skip) & both(within, f, s) & (bit(taken, f) + bit(taken, s) == 1)
+    within(set, ends) & (taken & ends != 0) & !within(taken, ends)
 }
 
-// The lowest join that leads out, and the count of joins where none does.
-fn first_leading(joins: Joins, within: usize, skip: usize, taken: usize) -> usize
-    requires { ⌜ joins .count ≤ 8 ⌝ }
-    ensures { λ r. ⌜ FirstLeading joins within skip taken r ⌝ }
+// The lowest join but the skipped one that leads out, and the count of joins where none does.
+fn first_leading(ends: &[usize; 8], count: usize, set: usize, skip: usize, taken: usize) -> usize
+    requires { ⌜ count ≤ 8 ⌝ }
+    ensures { λ r. ⌜ FirstLeading (now (ends .entry)) count set skip taken r ⌝ }
 {
-    let count = joins.count;
     let mut e = 0;
     while e < count {
-        if leads(joins, within, skip, taken, e) {
+        if (e != skip) & leads_out(ends[e], set, taken) {
             return e;
         }
         e += 1;
@@ -35,24 +28,14 @@ fn first_leading(joins: Joins, within: usize, skip: usize, taken: usize) -> usiz
     e
 }
 
-// The taken relations and the two of join e.
-fn along(joins: Joins, taken: usize, e: usize) -> usize
-    requires { ⌜ Ends joins e ⌝ }
-    ensures { λ r. ⌜ r ≡ along joins taken e ⌝ }
-{
-    let f = wide(joins.first[e]);
-    let s = wide(joins.second[e]);
-    with(with(taken, f), s)
-}
-
 // What the taken relations grow to within a set, skipping a join: the count of joins skips none.
-pub(crate) fn grow(joins: Joins, within: usize, skip: usize, taken: usize) -> usize
-    requires { ⌜ Growable joins within taken ⌝ }
-    ensures { λ r. ⌜ r ≡ grow joins within skip (joins .count + 1) taken ⌝ }
+pub(crate) fn grow(ends: &[usize; 8], count: usize, set: usize, skip: usize, taken: usize) -> usize
+    requires { ⌜ ((J : Joins) × Growable J (now ends) count set taken) ⌝ }
+    ensures { λ r. ⌜ ((J : Joins) → Growable J (now (ends .entry)) count set taken → r ≡ grow J set skip (J .count + 1) taken) ⌝ }
 {
-    let e = first_leading(joins, within, skip, taken);
-    if e < joins.count {
-        grow(joins, within, skip, along(joins, taken, e))
+    let e = first_leading(ends, count, set, skip, taken);
+    if e < count {
+        grow(ends, count, set, skip, taken | ends[e])
     } else {
         taken
     }

@@ -1,17 +1,21 @@
 // Sets of relations, the joins between them, growth along joins, and the two parts of a subquery.
 mod growing;
+mod masks;
 mod member;
+mod splitting;
 mod subquery;
 mod table;
 mod tree;
 mod widening;
 
+pub use masks::ends;
 pub use member::bit;
 pub use member::single;
 pub use member::whole;
 pub use member::within;
+pub use splitting::Parts;
+pub use splitting::split;
 pub use subquery::count_subqueries;
-pub use subquery::ends;
 pub use table::is_connected;
 pub use table::join_table;
 pub use table::joins_in;

@@ -1,9 +1,9 @@
-// Membership in a set of relations, and a set with one relation more.
-ghost use Prim.Native.Nat.{_+_, _-_, _^_, _<_};
+// Membership in a set of relations, the set of one relation and that of all.
+ghost use Prim.Native.Nat.{_^_, _<_};
 ghost use mathlib.Core.Path.{_≡_};
 ghost use lib.Bits.{bitAnd};
 ghost use lib.Dec.{eqb};
-ghost use Rattle.relations.specs.Sets.{bit, put, all};
+ghost use Rattle.relations.specs.Sets.{bit, all};
 
 // 1 where relation r is in the set, else 0.
 pub fn bit(set: usize, r: usize) -> usize
@@ -13,26 +13,11 @@ pub fn bit(set: usize, r: usize) -> usize
     if r < 64 { (set >> r) % 2 } else { 0 }
 }
 
-// Relations f and s are both in the set.
-pub(crate) fn both(set: usize, f: usize, s: usize) -> bool
-    ensures { λ r. ⌜ r ≡ eqb (bit set f + bit set s) 2 ⌝ }
-{
-    bit(set, f) + bit(set, s) == 2
-}
-
 // The part lies in the set whole.
 pub fn within(set: usize, part: usize) -> bool
     ensures { λ r. ⌜ r ≡ eqb (bitAnd set part) part ⌝ }
 {
     set & part == part
-}
-
-// The set with relation r, whether r was in it or not.
-pub(crate) fn with(set: usize, r: usize) -> usize
-    requires { ⌜ r < 64 ⌝ }
-    ensures { λ v. ⌜ v ≡ put set r ⌝ }
-{
-    set | single(r)
 }
 
 // The set of relation r alone.

@@ -2,13 +2,11 @@
 use crate::Joins;
 use crate::SETS;
 use crate::member::single;
-use crate::member::with;
 use crate::table::is_connected;
-use crate::widening::wide;
 ghost use Prim.Native.Nat.{_+_, _^_, _≤_, _<_};
 ghost use mathlib.Core.Path.{_≡_};
 ghost use Rattle.relations.specs.Trees.{subqueries};
-ghost use Rattle.relations.specs.Code.{Drawn, EndsOf, tally};
+ghost use Rattle.relations.specs.Code.{tally};
 ghost use Rattle.relations.specs.Table.{Tabled};
 
 // One more where the test holds.
@@ -17,23 +15,6 @@ fn tally(yes: bool, n: usize) -> usize
     ensures { λ r. ⌜ (r ≡ tally yes n) × (r ≤ n + 1) ⌝ }
 {
     if yes { n + 1 } else { n }
-}
-
-// The two relations of each join, as a set.
-pub fn ends(joins: Joins) -> [usize; 8]
-    requires { ⌜ Drawn joins ⌝ }
-    ensures { λ r. ⌜ EndsOf joins r (joins .count) ⌝ }
-{
-    let count = joins.count;
-    let mut found = [0usize; 8];
-    let mut e = 0;
-    while e < count {
-        let f = wide(joins.first[e]);
-        let s = wide(joins.second[e]);
-        found[e] = with(single(f), s);
-        e += 1;
-    }
-    found
 }
 
 // The number of subqueries of a tree, by its table.

@@ -1,8 +1,8 @@
 // What every set of relations holds: its relations and its joins, worked out for all sets in one pass by doubling.
 use crate::Joins;
 use crate::SETS;
+use crate::masks::ends;
 use crate::member::single;
-use crate::subquery::ends;
 ghost use Prim.Native.Nat.{_+_, _*_, _/_, _%_, _^_, _≤_, _<_};
 ghost use mathlib.Core.Path.{_≡_};
 ghost use lib.Bits.{bitAnd};

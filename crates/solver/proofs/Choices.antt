@@ -14,8 +14,10 @@ use lib.Pow.{pow-mono, pow-lt}
 use mir.Syntax.{w64}
 use mir.Val.{Fits}
 use borrow.Author.Tests.{eq-eqb, ne-eqb}
+use Rattle.relations.specs.declared.splitting.Parts.{Parts}
 use Rattle.relations.specs.Code.{mostSets}
 use Rattle.relations.specs.Sets.{bit}
+use Rattle.relations.specs.Splits.{partsBy}
 use Rattle.relations.proofs.Connected.{subquery-range}
 use Rattle.relations.proofs.Turns.{below-sets}
 use Rattle.query.specs.declared.Query.{Query}
@@ -95,11 +97,11 @@ module _ (combine : ℕ → ℕ → ℕ) (l : Lent) (S : ℕ) where
 
   -- The joins, one after the other: one that is not in the set changes nothing.
   module _ (joins k e d : ℕ) (kept : Choice) (c : ChoiceOf (joinTrial combine l joins S k) e kept) (is : d ≡ bit joins e) where
-    pub join-better : (side r : ℕ) (made : Choice) → d ≡ 1 → side ≡ sideAt (l .board) e → r ≡ trialOf combine l (bitAnd S side) (S - bitAnd S side) k →
-        made ≡ betterOf r e kept → ChoiceOf (joinTrial combine l joins S k) (e + 1) made
+    pub join-better : (p : Parts) (side r : ℕ) (made : Choice) → d ≡ 1 → side ≡ sideAt (l .board) e → p ≡ partsBy S side →
+        r ≡ trialOf combine l (p .first) (p .second) k → made ≡ betterOf r e kept → ChoiceOf (joinTrial combine l joins S k) (e + 1) made
     unfolding joinTrial
-    join-better side r made one side-is r-is made-is =
-        choice-more _ e r kept made c (r-is ∙ rw (side-is, eq-eqb (bit joins e) 1 (sym is ∙ one))) made-is
+    join-better p side r made one side-is parts-are r-is made-is =
+        choice-more _ e r kept made c (r-is ∙ rw (parts-are, side-is, eq-eqb (bit joins e) 1 (sym is ∙ one))) made-is
 
     pub join-worse : (d ≡ 1 → ⊥) → ChoiceOf (joinTrial combine l joins S k) (e + 1) kept
     unfolding joinTrial
@@ -154,7 +156,7 @@ module _ (combine : ℕ → ℕ → ℕ) (C : Combines combine) (q : Query) (l :
           lanes .each i (omega (arith, k .laid .board .sites))
           ∙ rw (joins-are, within-is combine C q l (k .laid) S (k .subquery)) (columns.start-is combine C q l (k .laid) S (k .subquery) filled-here i h)
 
-  pub triable : (joins e d side i : ℕ) → joins ≡ within l S → e < 8 → i < sitesOf q → d ≡ bit joins e → d ≡ 1 → side ≡ sideAt (l .board) e →
-      Triable l (bitAnd S side) (S - bitAnd S side) i
-  triable joins e d side i is h listed d-is one side-is =
-      rw side-is (joinable joins is .each e i h (omega (arith, k .laid .board .sites, reach-least (sitesAt (l .board)) (joinable joins is .few-sites))) (sym d-is ∙ one))
+  pub triable : (joins e d side i : ℕ) (p : Parts) → joins ≡ within l S → e < 8 → i < sitesOf q → d ≡ bit joins e → d ≡ 1 → side ≡ sideAt (l .board) e →
+      p ≡ partsBy S side → Triable l (p .first) (p .second) i
+  triable joins e d side i p is h listed d-is one side-is parts-are =
+      rw (parts-are, side-is) (joinable joins is .each e i h (omega (arith, k .laid .board .sites, reach-least (sitesAt (l .board)) (joinable joins is .few-sites))) (sym d-is ∙ one))

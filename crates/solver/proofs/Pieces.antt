@@ -4,9 +4,10 @@ use Prim.Native.Nat.{ℕ, _+_, _-_, _*_, _≤_, _<_}
 use native.Mathlib.Omega.{arith}
 use mathlib.Core.Path.{_≡_, refl}
 use mathlib.Core.List.{List, [], _∷_, _++_}
-use lib.Bits.{bitAnd}
 use lib.Count.{ones, trailingZeros, trailing-le}
 use lib.ListN.{length}
+use Rattle.relations.specs.declared.splitting.Parts.{Parts}
+use Rattle.relations.specs.Splits.{partsBy}
 use Rattle.query.specs.declared.Query.{Query}
 use Rattle.query.proofs.Indexed.{one-of-nine}
 use Rattle.rules.specs.Combine.{Combines}
@@ -49,7 +50,7 @@ module _ (combine : ℕ → ℕ → ℕ) (C : Combines combine) (l : Lent) where
   one-low S t q d one = one-of-nine S one (known-low combine C q l S (d .known))
 
   pub last-low : (S k e : ℕ) (q : Query) → ToJoin combine q l S k → e ≡ joinBy combine l S k → e < 8
-  last-low S k e q j last = parted combine C q l S k j e _ last refl .join-low
+  last-low S k e q j last = parted combine C q l S k j e _ _ last refl refl .join-low
 
   -- One relation: its load, then a send if one is due.
   module _ (S t at homes : ℕ) (old : List ℕ) (one : ones S ≡ 1) (homes-are : homes ≡ homesAt (l .board) (trailingZeros 64 S)) where
@@ -94,12 +95,13 @@ module _ (combine : ℕ → ℕ → ℕ) (C : Combines combine) (l : Lent) where
       more-delivers new s x q d = wrote-then old mid new (joinedBytes q S k) sent-on _ at r s (w q (to-join q d)) x (in-parts q d)
 
   -- A join: the part on its first relation's side, the rest, and the join itself.
-  module _ (S k at e side : ℕ) (old : List ℕ) (last : e ≡ joinBy combine l S k) (side-is : side ≡ sideAt (l .board) e) where
+  module _ (S k at e side : ℕ) (parts : Parts) (old : List ℕ) (last : e ≡ joinBy combine l S k) (side-is : side ≡ sideAt (l .board) e)
+      (parts-are : parts ≡ partsBy S side) where
     abbrev P : ℕ
-    P = bitAnd S side
+    P = parts .first
 
     abbrev R : ℕ
-    R = S - P
+    R = parts .second
 
     abbrev join : List ℕ
     join = 3 ∷ (e ∷ [])
@@ -107,8 +109,8 @@ module _ (combine : ℕ → ℕ → ℕ) (C : Combines combine) (l : Lent) where
     abbrev rest : Query → List ℕ
     rest q = deliveredBytes q R k ++ join
 
-    split : (q : Query) → ToJoin combine q l S k → Parted combine C q l S k e P
-    split q j = parted combine C q l S k j e side last side-is
+    split : (q : Query) → ToJoin combine q l S k → Parted combine C q l S k e P R
+    split q j = parted combine C q l S k j e side parts last side-is parts-are
 
     pub part-asked : (n : ℕ) → (2 * ones S ≡ n) × Joining S k at old → (2 * ones P + 1 < n) × Delivering P k at old
     part-asked n (is, (q, (j, room))) =

@@ -1,13 +1,14 @@
 -- What the writer writes at each call: the load of one relation, or the steps of the best join at the best site; the parts of a subquery before
 -- its join; and a send if one is due. Each written piece is the definition's.
-use Prim.Native.Nat.{ℕ, _-_, _<_}
+use Prim.Native.Nat.{ℕ, _<_}
 use native.Mathlib.Omega.{arith}
 use mathlib.Core.Path.{_≡_, sym, ap, subst, _∙_}
 use mathlib.Core.List.{List, [], _∷_, _++_}
-use lib.Bits.{bitAnd}
 use lib.Count.{ones, trailingZeros}
 use borrow.Author.Tests.{eq-eqb, ne-eqb}
+use Rattle.relations.specs.declared.splitting.Parts.{Parts}
 use Rattle.relations.specs.Sets.{lowest}
+use Rattle.relations.specs.Splits.{partsBy}
 use Rattle.relations.specs.Trees.{Subquery}
 use Rattle.relations.proofs.Connected.{subquery-range}
 use Rattle.relations.proofs.Counts.{one-some, lowest-below, lowest-same, lowest-pow}
@@ -83,13 +84,13 @@ module _ (combine : ℕ → ℕ → ℕ) (C : Combines combine) (q : Query) (l :
         (step-bytes-append (writtenJoined combine q S (bestSite combine q S t)) (sendIfDue (bestSite combine q S t) t))
 
   -- A join: both parts, each of fewer relations, then the join itself.
-  pub record Parted (k e P : ℕ) : Type 0 where
+  pub record Parted (k e P R : ℕ) : Type 0 where
     pub join-low : e < 8
     pub first : ToDeliver combine q l P k
-    pub second : ToDeliver combine q l (S - P) k
+    pub second : ToDeliver combine q l R k
     pub first-fewer : ones P < ones S
-    pub second-fewer : ones (S - P) < ones S
-    pub bytes : joinedBytes k ≡ deliveredBytes P k ++ (deliveredBytes (S - P) k ++ (3 ∷ (e ∷ [])))
+    pub second-fewer : ones R < ones S
+    pub bytes : joinedBytes k ≡ deliveredBytes P k ++ (deliveredBytes R k ++ (3 ∷ (e ∷ [])))
 
   known-part : (P : ℕ) → Known combine q l S → Subquery (q .joins) (relationsOf q) P → Known combine q l P
   known-part P k s = record { laid = k .laid; filled = k .filled; subquery = s }
@@ -103,9 +104,9 @@ module _ (combine : ℕ → ℕ → ℕ) (C : Combines combine) (q : Query) (l :
     last-is =
         let known = j .known in
         let fewer = ones-some q (known .laid .valid) (firstPart q S (bestJoin combine q S k)) (found .parts .first-part) in
-        join-is combine C q l (known .laid) S (known .subquery) (filled-here combine C q l S known) k (j .listed) (found .may) (λ one. omega (arith, found .parts .first-fewer, fewer))
+        join-is combine C q l (known .laid) S (known .subquery) (filled-here combine C q l S known) k (j .listed) (found .may) (λ one. omega (arith, found .smaller .first-fewer, fewer))
 
-    by-best : Parted k (bestJoin combine q S k) (firstPart q S (bestJoin combine q S k))
+    by-best : Parted k (bestJoin combine q S k) (firstPart q S (bestJoin combine q S k)) (otherPart q S (bestJoin combine q S k))
     unfolding writtenJoined joinedSteps
     by-best =
         let b = bestJoin combine q S k in
@@ -114,16 +115,16 @@ module _ (combine : ℕ → ℕ → ℕ) (C : Combines combine) (q : Query) (l :
           join-low = omega (arith, found .known, v .tree .joins, v .relations-most);
           first = record { known = known-part _ (j .known) (found .parts .first-part); listed = j .listed; cost = found .one; cost-is = found .one-is };
           second = record { known = known-part _ (j .known) (found .parts .second-part); listed = j .listed; cost = found .other; cost-is = found .other-is };
-          first-fewer = found .parts .first-fewer;
-          second-fewer = found .parts .second-fewer;
+          first-fewer = found .smaller .first-fewer;
+          second-fewer = found .smaller .second-fewer;
           bytes =
               step-bytes-append (writtenDelivered combine q (firstPart q S b) k) (writtenDelivered combine q (otherPart q S b) k ++ (joinStep b ∷ []))
               ∙ ap (λ (m : List ℕ). deliveredBytes (firstPart q S b) k ++ m) (step-bytes-append (writtenDelivered combine q (otherPart q S b) k) (joinStep b ∷ []));
         }
 
-    pub parted : (e side : ℕ) → e ≡ joinBy combine l S k → side ≡ sideAt (l .board) e → Parted k e (bitAnd S side)
-    parted e side e-is side-is =
+    pub parted : (e side : ℕ) (p : Parts) → e ≡ joinBy combine l S k → side ≡ sideAt (l .board) e → p ≡ partsBy S side → Parted k e (p .first) (p .second)
+    parted e side p e-is side-is parts-are =
         let b = bestJoin combine q S k in
         let part = part-is combine C q l (j .known .laid) S (j .known .subquery) b (found .known) (found .within) in
         let e-best : e ≡ b = e-is ∙ last-is in
-        rw (side-is, e-best, part) by-best
+        rw (parts-are, side-is, e-best, part) by-best

@@ -16,6 +16,7 @@ use query::Bytes;
 use relations::SETS;
 use relations::bit;
 use relations::single;
+use relations::split;
 use relations::whole;
 use relations::within;
 ghost use Prim.Native.Nat.{ℕ, _+_, _^_, _≤_, _<_};
@@ -162,9 +163,9 @@ fn last_join<'a>(
     let mut e = 0;
     while e < 8 {
         if bit(joins, e) == 1 {
-            let part = set & side_at(board, e);
+            let parts = split(set, side_at(board, e));
             best = better(
-                trial(board, sizes, places, work, part, set - part, k),
+                trial(board, sizes, places, work, parts.first, parts.second, k),
                 e,
                 best,
             );
@@ -220,10 +221,9 @@ fn write_joined<'a>(
         Wrote (now (out .entry)) at (stepBytes (writtenJoined _+_ q set k)) r (now (out .exit))) ⌝ }
 {
     let e = last_join(board, sizes, places, work, set, k);
-    let part = set & side_at(board, e);
-    let rest = set - part;
-    let next = write_delivered(board, sizes, places, work, &mut *out, at, part, k);
-    let last = write_delivered(board, sizes, places, work, &mut *out, next, rest, k);
+    let parts = split(set, side_at(board, e));
+    let next = write_delivered(board, sizes, places, work, &mut *out, at, parts.first, k);
+    let last = write_delivered(board, sizes, places, work, &mut *out, next, parts.second, k);
     put(&mut *out, last, 3, e)
 }
 

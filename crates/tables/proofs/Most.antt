@@ -50,9 +50,9 @@ module _ (combine : ℕ → ℕ → ℕ) (laws : Combines combine) (q : Query) (
       omega (
         arith,
         join .made,
-        join .parts .count,
-        fewer P k (join .one) (join .parts .first-part) (join .parts .first-fewer) (join .one-is),
-        fewer R k (join .other) (join .parts .second-part) (join .parts .second-fewer) (join .other-is),
+        join .smaller .count,
+        fewer P k (join .one) (join .parts .first-part) (join .smaller .first-fewer) (join .one-is),
+        fewer R k (join .other) (join .parts .second-part) (join .smaller .second-fewer) (join .other-is),
         laws .most (join .one) (join .other),
         join-most q v k (indexed q P k) P (indexed q R k) R,
       )

@@ -8,9 +8,9 @@ use native.Mathlib.Omega.{arith}
 use borrow.Author.Tests.{eq-eqb, ne-eqb}
 use Rattle.relations.specs.Growth.{inside}
 use Rattle.relations.specs.Trees.{Subquery}
-use Rattle.relations.specs.Theorems.{Split}
+use Rattle.relations.specs.Splits.{Split}
 use Rattle.relations.proofs.Counts.{ones-pos}
-use Rattle.relations.proofs.Splits.{split}
+use Rattle.relations.proofs.Splits.{grownParts, grown-split, Smaller, split-smaller}
 use Rattle.relations.proofs.Subqueries.{subqueries-law}
 use Rattle.query.specs.declared.Query.{Query}
 use Rattle.query.specs.Choice.{pick}
@@ -48,8 +48,9 @@ module _ (combine : ℕ → ℕ → ℕ) (q : Query) (v : Valid q) where
           pick b (plus (both combine (D (firstPart q S e) k) (D (otherPart q S e) k)) price) none
           ≡ pick b (plus (both combine (E (firstPart q S e) k) (E (otherPart q S e) k)) price) none
       go true within =
-          let parts : Split (q .joins) (relationsOf q) S e = split (q .joins) (relationsOf q) (v .tree) S e s l within in
-          rw (same (firstPart q S e) (parts .first-part) (parts .first-fewer), same (otherPart q S e) (parts .second-part) (parts .second-fewer))
+          let parts = grown-split (q .joins) (relationsOf q) (v .tree) S e s l within in
+          let smaller = split-smaller (q .joins) (relationsOf q) S e _ parts in
+          rw (same (firstPart q S e) (parts .first-part) (smaller .first-fewer), same (otherPart q S e) (parts .second-part) (smaller .second-fewer))
       go false within = refl
 
   joined-same : (D E : ℕ → ℕ → Cost) (S k : ℕ) → SubqueryHere S → ((P : ℕ) → SubqueryHere P → ones P < ones S → D P k ≡ E P k) →
@@ -105,7 +106,8 @@ module _ (combine : ℕ → ℕ → ℕ) (q : Query) (v : Valid q) where
     pub may : mayJoin q k ≡ true
     pub known : e < q .joins .count
     pub within : inside (q .joins) S e ≡ true
-    pub parts : Split (q .joins) (relationsOf q) S e
+    pub parts : Split (q .joins) (relationsOf q) S e (grownParts (q .joins) (relationsOf q) S e)
+    pub smaller : Smaller S (firstPart q S e) (otherPart q S e)
     pub one : ℕ
     pub other : ℕ
     pub one-is : delivered combine q (firstPart q S e) k ≡ some one
@@ -120,11 +122,13 @@ module _ (combine : ℕ → ℕ → ℕ) (q : Query) (v : Valid q) where
       let test = picked (inside (q .joins) S e) (plus (both combine (D (firstPart q S e) k) (D (otherPart q S e) k)) (some price)) c h in
       let sum = both-found _+_ (both combine (D (firstPart q S e) k) (D (otherPart q S e) k)) (some price) c (test .1) in
       let two = both-found combine (D (firstPart q S e) k) (D (otherPart q S e) k) (sum .one) (sum .one-is) in
+      let parts = grown-split (q .joins) (relationsOf q) (v .tree) S e s l (test .0) in
       record {
         may = may;
         known = l;
         within = test .0;
-        parts = split (q .joins) (relationsOf q) (v .tree) S e s l (test .0);
+        parts = parts;
+        smaller = split-smaller (q .joins) (relationsOf q) S e _ parts;
         one = two .one;
         other = two .other;
         one-is = two .one-is;

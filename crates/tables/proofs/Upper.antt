@@ -12,7 +12,6 @@ use native.Mathlib.Omega.{arith}
 use borrow.Author.Tests.{eq-eqb, ne-eqb, le-leb}
 use Rattle.relations.specs.Sets.{bit, Apart, all}
 use Rattle.relations.specs.Trees.{Subquery}
-use Rattle.relations.specs.Theorems.{Split}
 use Rattle.relations.proofs.Bits.{bit-add, bit-none, bit-le}
 use Rattle.relations.proofs.Subqueries.{subqueries-law}
 use Rattle.query.specs.declared.Query.{Query}
@@ -81,12 +80,12 @@ module _ (combine : ℕ → ℕ → ℕ) (q : Query) where
       let R : ℕ = otherPart q S e in
       let xs : List Step = D P k in
       let ys : List Step = D R k in
-      let one : Delivers combine q xs P k (join .one) = fewer P k (join .one) (parts .first-part) (parts .first-fewer) (site .listed) (join .one-is) in
-      let other : Delivers combine q ys R k (join .other) = fewer R k (join .other) (parts .second-part) (parts .second-fewer) (site .listed) (join .other-is) in
+      let one : Delivers combine q xs P k (join .one) = fewer P k (join .one) (join .parts .first-part) (join .smaller .first-fewer) (site .listed) (join .one-is) in
+      let other : Delivers combine q ys R k (join .other) = fewer R k (join .other) (join .parts .second-part) (join .smaller .second-fewer) (site .listed) (join .other-is) in
       let puts : Puts combine q (xs ++ (ys ++ (joinStep e ∷ []))) S k Joined (site .sum .one) =
       subst (λ (z : ℕ). Puts combine q (xs ++ (ys ++ (joinStep e ∷ []))) S k Joined z) (sym (join .made))
-      (puts-join xs ys P R S e k (join .one) (join .other) one other (parts .apart) (parts .whole) known (join .may) linked) in
-      let size = lengths xs ys e (ones P) (ones R) (ones S) (one .short) (other .short) (parts .count) in
+      (puts-join xs ys P R S e k (join .one) (join .other) one other (join .parts .apart) (join .parts .whole) known (join .may) linked) in
+      let size = lengths xs ys e (ones P) (ones R) (ones S) (one .short) (other .short) (join .smaller .count) in
       subst (λ (z : ℕ). Delivers combine q ((xs ++ (ys ++ (joinStep e ∷ []))) ++ sendIfDue k t) S t z) (sym (site .sum .made))
       (due combine q (xs ++ (ys ++ (joinStep e ∷ []))) S k t (site .sum .one) (site .sum .other) Joined puts refl (sym (more-unindexed q S k more))
       (λ away. more-unindexed q S t more) listed (site .sum .other-is) (size .0) (size .1))
@@ -97,15 +96,12 @@ module _ (combine : ℕ → ℕ → ℕ) (q : Query) where
       join : ByJoin combine q v S (bestSite combine q S t) (bestJoin combine q S (bestSite combine q S t)) (site .sum .one)
       join = joined-found combine q v S (bestSite combine q S t) (site .sum .one) s (site .sum .one-is)
 
-      parts : Split (q .joins) (relationsOf q) S (bestJoin combine q S (bestSite combine q S t))
-      parts = join .parts
-
       known : bestJoin combine q S (bestSite combine q S t) < relationsOf q - 1
       known = omega (arith, join .known, v .tree .joins)
 
       linked : links (q .joins) (bestJoin combine q S (bestSite combine q S t)) (firstPart q S (bestJoin combine q S (bestSite combine q S t)))
           (otherPart q S (bestJoin combine q S (bestSite combine q S t))) ≡ true
-      linked = links-of (q .joins) _ _ _ (parts .first-in) (parts .second-in)
+      linked = links-of (q .joins) _ _ _ (join .parts .first-in) (join .parts .second-in)
 
       lengths : (xs ys : List Step) (e p r s : ℕ) → length xs + 2 ≤ 4 * p → length ys + 2 ≤ 4 * r → s ≡ p + r →
           (1 ≤ length (xs ++ (ys ++ (joinStep e ∷ [])))) × (length (xs ++ (ys ++ (joinStep e ∷ []))) + 3 ≤ 4 * s)

@@ -9,7 +9,6 @@ use native.Mathlib.Nat.{eq-or-lt-of-le}
 use native.Mathlib.Omega.{arith}
 use borrow.Author.Tests.{eq-eqb, ne-eqb}
 use Rattle.relations.specs.Trees.{Subquery}
-use Rattle.relations.specs.Theorems.{Split}
 use Rattle.query.specs.declared.Query.{Query}
 use Rattle.query.specs.Cost.{some}
 use Rattle.query.specs.Query.{Valid, relationsOf}
@@ -30,10 +29,9 @@ module _ (combine : ℕ → ℕ → ℕ) (q : Query) (v : Valid q) where
   joined-steps-same D E S k c s number same =
       let e : ℕ = bestJoin combine q S k in
       let join : ByJoin combine q v S k e c = joined-found combine q v S k c s number in
-      let parts : Split (q .joins) (relationsOf q) S e = join .parts in
       rw (
-        same (firstPart q S e) (join .one) (parts .first-part) (parts .first-fewer) (join .one-is),
-        same (otherPart q S e) (join .other) (parts .second-part) (parts .second-fewer) (join .other-is),
+        same (firstPart q S e) (join .one) (join .parts .first-part) (join .smaller .first-fewer) (join .one-is),
+        same (otherPart q S e) (join .other) (join .parts .second-part) (join .smaller .second-fewer) (join .other-is),
       )
 
   delivered-steps-same : (D E : ℕ → ℕ → List Step) (S t c : ℕ) → Subquery (q .joins) (relationsOf q) S → delivered combine q S t ≡ some c →

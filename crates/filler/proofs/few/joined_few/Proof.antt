@@ -1,8 +1,9 @@
 -- `few::joined_few` meets its contract: each turn tries the lowest join that is left. Assumes nothing.
 use Prim.Native.Nat.{_+_}
 use native.Mathlib.Omega.{arith}
-use mathlib.Core.Path.{refl}
-use lib.Bits.{and-le-l}
+use mathlib.Core.Path.{refl, ap, _∙_}
+use borrow.Author.Needs.{needs}
+use Rattle.relations.specs.Splits.{partsBy}
 use Rattle.query.proofs.Indexed.{place-fits}
 use Rattle.filler.specs.Trials.{lent}
 use Rattle.filler.proofs.Joins.{JoinedTo, joined-none, joined-done, next-low, next-less, next-asks, joined-more}
@@ -24,11 +25,11 @@ joined-few-spec =
     (λ c. joined-none _ _ _ _ _ (omega arith) (c .before .pre .0))
     (λ c. place-fits _)
     (λ c κs. next-low _ _ _ _ _ _ (c .before .loop .inv) (c .loop-test .taken))
-    (λ c. and-le-l _ _)
-    (λ c κs. let t = c .before .before in let i = t .before in let p = i .before .before .pre in
-    ((i .loop .inv .marked, next-asks _ _ _ _ _ _ (i .loop .inv) (t .loop-test .taken) (p .0) _ (c .before .side-at .ensures)), (p .0 .some-site, p .1)))
-    (λ c. let t = c .before .before .before in omega (arith, t .loop-test .taken))
-    (λ c. let t = c .before .before .before in next-less _ _ _ _ _ _ (t .before .loop .inv) (t .loop-test .taken) _ refl)
-    (λ c. let a = c .before .before in let t = a .before in
-    joined-more _ _ _ _ _ _ (t .before .loop .inv) (t .loop-test .taken) _ _ _ (a .side-at .ensures) refl (c .try-few .ensures))
+    (λ c κs. search needs)
+    (λ c κs. let a = c .before .before in let t = a .before in let i = t .before in let p = i .before .before .pre in
+    ((i .loop .inv .marked, next-asks _ _ _ _ _ _ (i .loop .inv) (t .loop-test .taken) (p .0) _ (c .before .split .ensures ∙ ap (partsBy _) (a .side-at .ensures))), (p .0 .some-site, p .1)))
+    (λ c. let t = c .before .before .before .before in omega (arith, t .loop-test .taken))
+    (λ c. let t = c .before .before .before .before in next-less _ _ _ _ _ _ (t .before .loop .inv) (t .loop-test .taken) _ refl)
+    (λ c. let a = c .before .before .before in let t = a .before in
+    joined-more _ _ _ _ _ _ (t .before .loop .inv) (t .loop-test .taken) _ _ _ (c .before .before .split .ensures ∙ ap (partsBy _) (a .side-at .ensures)) refl (c .try-few .ensures))
     (λ c. joined-done _ _ _ _ _ _ (c .before .loop .inv) (c .loop-test .left)))

@@ -5,15 +5,15 @@ use mathlib.Core.Bool.{false}
 use native.Mathlib.Omega.{arith}
 use borrow.Author.Count.{below-none, below-more}
 use borrow.Author.Needs.{needs}
-use Rattle.relations.specs.Growth.{leads}
+use Rattle.relations.specs.Code.{leadsBy}
 use Rattle.relations.proofs.growing.first_leading.Statement.{statement}
 use Rattle.relations.proofs.growing.first_leading.Tie as tie
 
 abbrev Inv-loop : tie.InvT-loop
-Inv-loop joins within skip taken count e₀ e = (e ≤ joins .count) × ((i : ℕ) → i < e → leads joins within skip taken i ≡ false)
+Inv-loop ends count set skip taken e₀ e = (e ≤ count) × ((i : ℕ) → i < e → leadsBy ends set skip taken i ≡ false)
 
 abbrev μ-loop : tie.MeasureT-loop
-μ-loop joins within skip taken count e₀ e = count - e
+μ-loop ends count set skip taken e₀ e = count - e
 
 pub first-leading-spec : {M : Type 1} → statement M
 first-leading-spec =
@@ -22,9 +22,11 @@ first-leading-spec =
     Inv-loop
     μ-loop
     (λ c. (search needs, below-none _))
+    (λ c. search needs)
+    (λ c. search needs)
     (λ c κs. search needs)
-    (λ c. record { range = search needs; below = c .before .before .before .loop .inv .1; found = λ h. cc })
+    (λ c. record { range = search needs; below = c .before .before .before .before .loop .inv .1; found = λ h. cc })
     (λ c. search needs)
     (λ c. search needs)
-    (λ c. (search needs, below-more _ _ (c .before .before .before .loop .inv .1) (cc)))
+    (λ c. (search needs, below-more _ _ (c .before .before .before .before .loop .inv .1) (cc)))
     (λ c. record { range = search needs; below = c .before .loop .inv .1; found = λ h. let z : ⊥ = omega arith in absurd z }))

@@ -1,7 +1,6 @@
 -- `writing::write_delivered` and `writing::write_joined` meet their contracts: each piece is written where the last one ended, and the number of
 -- relations in the subquery falls with each call of the one by the other that goes to a part. Assumes nothing.
 use Prim.Native.Nat.{ℕ, _+_, _*_, _<_}
-use lib.Bits.{and-le-l}
 use lib.Count.{ones}
 use borrow.Author.Needs.{needs}
 use borrow.Fn.Kinds.{In}
@@ -17,6 +16,7 @@ use Rattle.solver.proofs.writing.write_joined.Kinds as write-joined-kin
 use Rattle.solver.proofs.writing.+write_delivered+write_joined.Lts-write_joined as write-joined-lts
 use Rattle.board.proofs.homes_at.Reads as homes-at-reads
 use Rattle.board.proofs.side_at.Reads as side-at-reads
+use Rattle.relations.proofs.split.Reads as split-reads
 use Rattle.solver.proofs.writing.join_site.Reads as join-site-reads
 use Rattle.solver.proofs.writing.last_join.Reads as last-join-reads
 use Rattle.solver.proofs.writing.put.Reads as put-reads
@@ -64,6 +64,8 @@ joined-claims n = (
   last-join-reads.Learnt,
   side-at-reads.Asked,
   side-at-reads.Learnt,
+  split-reads.Asked,
+  split-reads.Learnt,
   write-delivered-below n,
   write-delivered.Post,
   put-reads.Asked,
@@ -89,20 +91,20 @@ pub +write-delivered+write-joined-spec : {M : Type 1} → statement M
     (λ c. search needs)
     (λ c. search (needs, more-delivers, plus-combines)))
     λ n. write-joined-lts.spec (joined-claims n) (write-joined-at n) write-joined.Post
-    -- The last join and its side, the part, the rest, the join itself.
+    -- The last join, its side and the two parts; the first, the second, the join itself.
     (λ c κs. let p = c .before .before .pre .1 in (p .0, p .1 .0))
     (λ c κs. search (needs, last-low, plus-combines))
-    (λ c. and-le-l _ _)
-    (λ c κs. let side = c .before in let s = side .before .before .before .before in
-    part-asked _ plus-combines _ _ _ _ _ _ (s .args .out .now) (side .before .last-join .ensures) (side .side-at .ensures) _ (s .pre))
-    (λ c κs. let first = c .before .before .before in let side = first .before .before in let s = side .before .before .before .before in
-    rest-asked _ plus-combines _ _ _ _ _ _ _ (side .before .last-join .ensures) (side .side-at .ensures) _ _ (first .write-delivered .ensures) _ (s .pre))
-    (λ c κs. let second = c .before .before .before in let first = second .before .before .before .before in let side = first .before .before in
-    let s = side .before .before .before .before in
-    last-asked _ plus-combines _ _ _ _ _ _ _ (side .before .last-join .ensures) (side .side-at .ensures) _ _ (first .write-delivered .ensures)
+    (λ c κs. search needs)
+    (λ c κs. let parts = c .before in let side = parts .before in let s = side .before .before .before .before in
+    part-asked _ plus-combines _ _ _ _ _ _ _ (s .args .out .now) (side .before .last-join .ensures) (side .side-at .ensures) (parts .split .ensures) _ (s .pre))
+    (λ c κs. let first = c .before .before .before in let parts = first .before .before in let side = parts .before in let s = side .before .before .before .before in
+    rest-asked _ plus-combines _ _ _ _ _ _ _ _ (side .before .last-join .ensures) (side .side-at .ensures) (parts .split .ensures) _ _ (first .write-delivered .ensures) _ (s .pre))
+    (λ c κs. let second = c .before .before .before in let first = second .before .before .before .before in let parts = first .before .before in
+    let side = parts .before in let s = side .before .before .before .before in
+    last-asked _ plus-combines _ _ _ _ _ _ _ _ (side .before .last-join .ensures) (side .side-at .ensures) (parts .split .ensures) _ _ (first .write-delivered .ensures)
     _ _ (second .write-delivered2 .ensures) (s .pre .1))
     (λ c. search needs)
     (λ c. let put = c .before .before in let second = put .before .before .before .before in let first = second .before .before .before .before in
-    let side = first .before .before in
-    joins _ plus-combines _ _ _ _ _ _ _ (side .before .last-join .ensures) (side .side-at .ensures) _ _ (first .write-delivered .ensures)
+    let parts = first .before .before in let side = parts .before in
+    joins _ plus-combines _ _ _ _ _ _ _ _ (side .before .last-join .ensures) (side .side-at .ensures) (parts .split .ensures) _ _ (first .write-delivered .ensures)
     _ _ (second .write-delivered2 .ensures) _ _ (put .put .ensures))

@@ -1,6 +1,5 @@
 -- `writing::last_join` meets its contract: each turn weighs one join more, and those that are not in the set change nothing. Assumes nothing.
 use Prim.Native.Nat.{_+_, _-_, _≤_}
-use lib.Bits.{and-le-l}
 use borrow.Author.Needs.{needs}
 use Rattle.rules.proofs.Combinations.{plus-combines}
 use Rattle.board.specs.Figures.{ChoiceOf}
@@ -26,12 +25,13 @@ last-join-spec =
     (λ c. search (needs, choice-none))
     (λ c κs. search needs)
     (λ c κs. search needs)
-    (λ c. and-le-l _ _)
+    (λ c κs. search needs)
     (λ c κs. search (needs, triable, plus-combines))
     (λ c κs. search needs)
     (λ c. search needs)
     (λ c. search needs)
-    (λ c. (search needs, search (needs, join-better)))
+    (λ c. let t = c .before in let p = t .before in let a = p .before in let b = a .before .before in let i = b .before .before in
+    (search needs, join-better _ _ _ _ _ _ (b .bit .result) _ (i .loop .inv .1) (search needs) _ _ _ _ (search needs) (a .side-at .ensures) (p .split .ensures) (t .trial .ensures .0) (c .better .ensures)))
     (λ c. search needs)
     (λ c. search needs)
     (λ c. (search needs, search (needs, join-worse)))
