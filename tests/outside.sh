@@ -1,5 +1,6 @@
 #!/usr/bin/env bash
-# The tests from outside: the C call at its boundary, the programs' exit codes, programs and archive held to the reference.
+# The tests from outside: the C call at its boundary, what the archive copies, the programs' exit codes, programs and archive
+# held to the reference.
 #   outside.sh [seed=N] [files=N] [lists=N]   so many random files and lists of calls in each comparison, from that seed
 set -euo pipefail
 cd "$(dirname "$0")/.."
@@ -52,6 +53,7 @@ tests/prove.sh staticlib fanchuki
 began=$SECONDS
 tests/c/run.sh
 echo "   the C tests: ok ($((SECONDS - began)) s)"
+stage "no list of joins is copied in the archive" tests/copies/run.sh
 stage "exit codes" tests/exits.sh
 stage "the stored cases of calls are the stated ones" calls_stated
 stage "the examples are packed from their texts" examples_packed
