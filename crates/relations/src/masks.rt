@@ -18,7 +18,7 @@ fn pair_if(yes: bool, f: usize, s: usize) -> usize
 }
 
 // The sets of the relations a[e] and b[e], for e below count. All eight places are gone through, so that the compiler knows
-// each of them and makes no copy of the lists to find it.
+// each of them and need not copy the lists to index them.
 fn pairs<'a>(a: &'a [u8; 8], b: &'a [u8; 8], count: usize) -> [usize; 8]
     requires { ⌜ count ≤ 8 ⌝ }
     requires { ⌜ ((e : ℕ) → e < count → (getD (now a) e 0 < 64) × (getD (now b) e 0 < 64)) ⌝ }
