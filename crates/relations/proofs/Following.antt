@@ -45,7 +45,7 @@ none-in J A e = go (eqb (bit A f + bit A s) 0) refl
         (omega (arith, ap (λ (x : ℕ). bit x f) q, ap (λ (x : ℕ). bit x s) q, bit-none f, bit-none s, bit-and A M f, bit-and A M s, bit-put (2 ^ f) s f, bit-put (2 ^ f) s s, bit-pow f, bit-pow s))
 
 -- By its ends a join leads out just where it does by its two relations.
-pub leads-by : (J : Joins) (l : List ℕ) (S x A e : ℕ) → getD l e 0 ≡ endsOf J e → leadsBy l S x A e ≡ leads J S x A e
+leads-by : (J : Joins) (l : List ℕ) (S x A e : ℕ) → getD l e 0 ≡ endsOf J e → leadsBy l S x A e ≡ leads J S x A e
 unfolding leads leadsOut inside
 leads-by J l S x A e is = rw (is, ends-in J S e, none-in J A e, inside-counts) (go (not (eqb e x)) (inside J S e) (bit A (first J e) + bit A (second J e)) (omega (arith, bit-le A (first J e), bit-le A (second J e))))
   where
@@ -78,7 +78,7 @@ module _ (J : Joins) (l : List ℕ) (m S x A e : ℕ) (g : Growable J l m S A) (
     leading = leads-means J S x A e (sym (same e h) ∙ f .found h)
 
     followed : B ≡ along J A e
-    unfolding endsOf put
+    unfolding endsOf
     followed = b ∙ ext (bitOr A M) (along J A e) (λ r.
         omega (arith, bit-or A M r, ap (λ (y : ℕ). bit y r) (ends-are ∙ g .ends .each e known), bit-put (2 ^ first J e) (second J e) r, bit-along J A e r))
 

@@ -76,7 +76,7 @@ module _ (J : Joins) (n : ℕ) (t : Tree J n) (S e : ℕ) (l : e < J .count) (be
   masked-within : Sub masked S
   masked-within r = omega (arith, masked-bit r)
 
-  pub conn-split : Split J n S e (partsBy S (side J n e))
+  conn-split : Split J n S e (partsBy S (side J n e))
   unfolding masked
   conn-split =
       let two = halves masked (S - masked) masked-bit (bit-less S (side J n e)) in
