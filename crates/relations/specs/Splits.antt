@@ -22,7 +22,8 @@ pub record Split (J : Joins) (n S e : ℕ) (p : Parts) : Type 0 where
   pub apart : Apart (p .first) (p .second)
   pub whole : p .first + p .second ≡ S
 
--- For every subquery and every join in it this holds of the parts that the code takes: those by the join's side in the whole query.
+-- For every subquery and every join in it this holds of the parts that the code takes: those by the join's side in the whole query, which `sides`
+-- answers (`SidesOf`).
 abbrev pub SplitLaw : Type 0
 SplitLaw =
     (J : Joins) (n : ℕ) → Tree J n → (S e : ℕ) → Subquery J n S → e < J .count → inside J S e ≡ true → Split J n S e (partsBy S (side J n e))

@@ -8,7 +8,7 @@ pub struct Parts {
     pub second: usize,
 }
 
-// The two parts by the join's side in the whole query: what the set shares with it, and the rest.
+// The two parts by the join's side in the whole query: what the set shares with it, and the rest. `SplitLaw` says what they are.
 pub fn split(set: usize, side: usize) -> Parts
     ensures { λ r. ⌜ r ≡ partsBy set side ⌝ }
 {
