@@ -51,7 +51,7 @@ fn begin(
 }
 
 // From a subquery to those with one of the relations that wait for it. For these wait the higher ones that waited beside it, and its own neighbours.
-// Of the joins it takes n, the number of relations, alone: the list would be copied for each subquery.
+// Of the joins it takes the number of relations, n, alone.
 fn extend(
     n: usize,
     table: &[u32; SETS],
