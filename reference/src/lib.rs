@@ -22,6 +22,7 @@ pub mod method;
 pub mod older;
 pub mod pinned;
 pub mod pinned_calls;
+pub mod pinned_indexes;
 pub mod pinned_rooms;
 pub mod pinned_row_calls;
 pub mod pinned_rows;

@@ -2,7 +2,7 @@
 //! work. The wrong ways are here so that the tests can be seen to tell them apart.
 
 use crate::limits::PARCEL;
-use crate::prices;
+use crate::prices::{self, Operand};
 use crate::query::{Line, Site};
 use crate::units::{Bytes, Charge, Parcels};
 
@@ -14,8 +14,20 @@ pub enum Method {
     OnlyHomes,
     /// One operand of each join is a single relation, as in the older method.
     SingleOperand,
-    /// Spares the index read of a relation that was sent.
+    /// An indexed relation that was sent qualifies.
     IndexAfterSend,
+    /// An indexed relation that was sent qualifies beside one that was not.
+    SentBesideAnother,
+    /// Of two that qualify spares both.
+    BothSpared,
+    /// Of two that qualify spares neither.
+    NeitherSpared,
+    /// Of two that qualify spares the smaller.
+    SmallerSpared,
+    /// Of two that qualify and are equal spares neither.
+    EqualBothRead,
+    /// Of two that qualify and are equal spares both.
+    EqualBothSpared,
     /// Takes each line in the other direction.
     OtherDirection,
     /// None is the largest number, and a sum with it wraps.
@@ -42,10 +54,16 @@ pub enum Method {
 
 impl Method {
     /// The planners that nearly work of docs/RULES.md, 11.
-    pub const NEARLY_WORKING: [Method; 10] = [
+    pub const NEARLY_WORKING: [Method; 16] = [
         Method::OnlyHomes,
         Method::SingleOperand,
         Method::IndexAfterSend,
+        Method::SentBesideAnother,
+        Method::BothSpared,
+        Method::NeitherSpared,
+        Method::SmallerSpared,
+        Method::EqualBothRead,
+        Method::EqualBothSpared,
         Method::OtherDirection,
         Method::WrappingNone,
         Method::LinesByTheByte,
@@ -75,13 +93,26 @@ impl Method {
         }
     }
 
-    /// What joining at the site costs, by what is read and by the result's size.
-    pub fn join(self, site: &Site, read_one: Bytes, read_other: Bytes, together: Bytes) -> Charge {
+    /// What joining the operands at the site costs.
+    pub fn join(self, site: &Site, operands: [Operand; 2], together: Bytes) -> Charge {
+        let reads = self.reads(operands);
         match self {
-            Method::JoinsByTheParcel => {
-                site.fixed + site.rate * prices::parcels(read_one + read_other + together)
-            }
-            _ => prices::join(site, read_one, read_other, together),
+            Method::JoinsByTheParcel => site.fixed + site.rate * prices::parcels(reads + together),
+            _ => prices::join(site, reads, together),
+        }
+    }
+
+    /// What a join reads of its operands.
+    fn reads(self, operands: [Operand; 2]) -> Bytes {
+        let [one, other] = operands.map(|operand| operand.size);
+        match self {
+            _ if !operands.iter().all(|operand| operand.qualifies) => prices::reads(operands),
+            Method::BothSpared => Bytes(0),
+            Method::NeitherSpared => one + other,
+            Method::SmallerSpared => one.max(other),
+            Method::EqualBothRead if one == other => one + other,
+            Method::EqualBothSpared if one == other => Bytes(0),
+            _ => prices::reads(operands),
         }
     }
 
@@ -91,6 +122,12 @@ impl Method {
             Method::OnlyHomes => "only-homes",
             Method::SingleOperand => "single-operand",
             Method::IndexAfterSend => "index-after-send",
+            Method::SentBesideAnother => "sent-beside-another",
+            Method::BothSpared => "both-spared",
+            Method::NeitherSpared => "neither-spared",
+            Method::SmallerSpared => "smaller-spared",
+            Method::EqualBothRead => "equal-both-read",
+            Method::EqualBothSpared => "equal-both-spared",
             Method::OtherDirection => "other-direction",
             Method::WrappingNone => "wrapping-none",
             Method::LinesByTheByte => "lines-by-the-byte",

@@ -1,10 +1,11 @@
 //! Fixed lists of calls for the places of the rules that are easily misread: state
 //! before input, what a refusal leaves standing, wide arguments, every refusal of check
-//! with its place; sizes at and beside full parcels.
+//! with its place; sizes at and beside full parcels; two indexes.
 
 use crate::encode::encode;
 use crate::limits::{LONGEST_PLAN, MOST_CELLS, MOST_FIXED, MOST_RATE, MOST_SIZE};
 use crate::pinned;
+use crate::pinned_indexes;
 use crate::planner::Link;
 use crate::query::{Line, Query, Relation, Site};
 use crate::script::Call;
@@ -22,6 +23,7 @@ pub fn lists() -> Vec<Vec<Call>> {
         alone(),
         dearest(),
         parcels(),
+        two_indexes(),
     ]
 }
 
@@ -257,6 +259,21 @@ fn parcels() -> Vec<Call> {
         calls.extend([link(0, 1, 1, 0, 1_000), solve(2, 5), check(&[2, 1, 0, 2, 1])]);
         calls.extend([load(&pinned::joined_and_sent(size)), solve(6, 9)]);
         calls.push(check(&[4, 1, 1, 1, 0, 3, 0, 2, 1]));
+    }
+    calls
+}
+
+/// Each query solved, and its cheapest plan checked; where both relations have one home also
+/// the other way round, and joined away from there.
+fn two_indexes() -> Vec<Call> {
+    let mut calls = Vec::new();
+    for worked in pinned_indexes::worked() {
+        calls.extend([load(&worked.query), SOLVE, check(&worked.plan)]);
+    }
+    for worked in pinned_indexes::at_one_home() {
+        calls.push(load(&worked.query));
+        calls.push(check(&[3, 1, 1, 1, 0, 3, 0]));
+        calls.push(check(&[6, 1, 0, 2, 1, 1, 1, 2, 1, 3, 0, 2, 0]));
     }
     calls
 }

@@ -14,7 +14,25 @@ pub fn send(line: &Line, size: Bytes) -> Charge {
     line.fixed + line.rate * parcels(size)
 }
 
-/// Joining at the site: what is read of both operands, and the result's size.
-pub fn join(site: &Site, read_one: Bytes, read_other: Bytes, together: Bytes) -> Charge {
-    site.fixed + site.rate * (read_one + read_other + together)
+/// An operand of a join; whether it qualifies, that is, its index can be followed there.
+#[derive(Clone, Copy, Debug, PartialEq, Eq)]
+pub struct Operand {
+    pub size: Bytes,
+    pub qualifies: bool,
+}
+
+/// What a join reads of its operands. It follows one index: of two that qualify the larger is
+/// spared, and the smaller is read.
+pub fn reads([one, other]: [Operand; 2]) -> Bytes {
+    match (one.qualifies, other.qualifies) {
+        (true, true) => one.size.min(other.size),
+        (true, false) => other.size,
+        (false, true) => one.size,
+        (false, false) => one.size + other.size,
+    }
+}
+
+/// Joining at the site: what is read of the operands, and the result's size.
+pub fn join(site: &Site, reads: Bytes, together: Bytes) -> Charge {
+    site.fixed + site.rate * (reads + together)
 }

@@ -1,10 +1,10 @@
 //! The plan rules: a stack of held results, and what a step does to it.
 
-use crate::prices;
+use crate::prices::{self, Operand};
 use crate::query::Query;
 use crate::sets::{self, Set};
 use crate::step::Step;
-use crate::units::{Bytes, Charge};
+use crate::units::Charge;
 
 /// How a held result was made.
 #[derive(Clone, Copy, Debug, PartialEq, Eq, PartialOrd, Ord, Hash)]
@@ -22,14 +22,13 @@ pub struct Held {
 }
 
 impl Held {
-    /// What a join reads of it: nothing where an index answers.
-    fn read(&self, query: &Query) -> Bytes {
-        let by_index = self.origin == Origin::Bare && query.relations[sets::lowest(self.set)].index;
-        if by_index {
-            Bytes(0)
-        } else {
-            query.size(self.set)
-        }
+    /// Its index can be followed: it has one, and is a bare relation, which stands at its home.
+    pub fn qualifies(&self, query: &Query) -> bool {
+        self.origin == Origin::Bare && query.relations[sets::lowest(self.set)].index
+    }
+
+    fn operand(&self, query: &Query) -> Operand {
+        Operand { size: query.size(self.set), qualifies: self.qualifies(query) }
     }
 }
 
@@ -93,7 +92,8 @@ impl Stack {
             return None;
         }
         let set = below.set | top.set;
-        let cost = prices::join(site, below.read(query), top.read(query), query.size(set));
+        let reads = prices::reads([below, top].map(|held| held.operand(query)));
+        let cost = prices::join(site, reads, query.size(set));
         self.held.truncate(self.held.len() - 2);
         self.held.push(Held { set, site: top.site, origin: Origin::Joined });
         Some(cost)

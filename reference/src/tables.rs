@@ -2,10 +2,11 @@
 //! over fewer relations.
 
 use crate::method::Method;
+use crate::prices::Operand;
 use crate::query::Query;
 use crate::sets::{self, Set};
 use crate::tree;
-use crate::units::{Bytes, Charge};
+use crate::units::Charge;
 
 /// A cost or none.
 pub type Cost = Option<Charge>;
@@ -84,10 +85,8 @@ impl<'query> Tables<'query> {
             return best;
         }
         for &(join, first, other) in splits {
-            let site = &self.query.sites[at];
-            let (read_first, read_other) = (self.read(first, at), self.read(other, at));
-            let together = self.query.size(subquery);
-            let price = self.method.join(site, read_first, read_other, together);
+            let (site, together) = (&self.query.sites[at], self.query.size(subquery));
+            let price = self.method.join(site, self.operands([first, other], at), together);
             let parts = self.sum(self.delivered(first, at).cost, self.delivered(other, at).cost);
             let cost = self.sum(parts, Some(price));
             if self.wins(cost, best.cost, Method::HighestJoin) {
@@ -122,15 +121,25 @@ impl<'query> Tables<'query> {
         line.open.then(|| self.method.send(line, self.query.size(subquery)))
     }
 
-    /// What a join at the site reads of an operand that was delivered there.
-    fn read(&self, part: Set, at: usize) -> Bytes {
+    /// Two parts that were delivered to the site, as the operands of a join there: one that has
+    /// its index there was not sent.
+    fn operands(&self, parts: [Set; 2], at: usize) -> [Operand; 2] {
+        let qualifies = |part| self.index_at(part) == Some(at);
+        let sent_too = match self.method {
+            Method::IndexAfterSend => true,
+            Method::SentBesideAnother => parts.into_iter().any(qualifies),
+            _ => false,
+        };
+        parts.map(|part| Operand {
+            size: self.query.size(part),
+            qualifies: qualifies(part) || sent_too && self.index_at(part).is_some(),
+        })
+    }
+
+    /// The home of a single relation that has an index.
+    fn index_at(&self, part: Set) -> Option<usize> {
         let relation = self.query.relations[sets::lowest(part)];
-        let stands_at_home = relation.home == at || self.method == Method::IndexAfterSend;
-        if sets::count(part) == 1 && relation.index && stands_at_home {
-            Bytes(0)
-        } else {
-            self.query.size(part)
-        }
+        (sets::count(part) == 1 && relation.index).then_some(relation.home)
     }
 
     fn may_join(&self, subquery: Set, at: usize) -> bool {

@@ -3,6 +3,7 @@
 use reference::answers;
 use reference::pinned;
 use reference::pinned_calls::{self, SOLVE};
+use reference::pinned_indexes;
 use reference::pinned_rooms::{self, room};
 use reference::pinned_row_calls::{self, load_from_rows};
 use reference::pinned_rows;
@@ -191,6 +192,23 @@ fn parcels_are_started() {
         assert_eq!(answers, expected);
     }
     assert_eq!(answers.len(), 9 * pinned::PARCELS.len());
+}
+
+#[test]
+fn two_indexes() {
+    let answers: Vec<String> = list(8).into_iter().filter(|line| !line.ends_with("OK")).collect();
+    let worked = pinned_indexes::worked();
+    let (solved, checked) = answers.split_at(3 * worked.len());
+    for (answers, worked) in solved.chunks_exact(3).zip(worked) {
+        let solved = format!("solved {} {} ", worked.cost, worked.plan.len());
+        assert!(answers[1].starts_with(&solved), "{}: {}", worked.what, answers[1]);
+        assert_eq!(answers[2], format!("check {}", worked.cost), "{}", worked.what);
+    }
+    for (answers, worked) in checked.chunks_exact(3).zip(pinned_indexes::at_one_home()) {
+        assert_eq!(answers[1], format!("check {}", worked.cost), "{}", worked.what);
+    }
+    // Sizes 10 and 4 joined away from home: sent for 3 and 2, both read, the result sent for 2.
+    assert_eq!(checked[..3], ["load 2 3", "check 9", "check 26"]);
 }
 
 /// The calls of a script up to where it ends, is cut or has an unknown record.

@@ -15,7 +15,7 @@ use reference::limits::{LONGEST_PLAN, MOST_CELLS};
 use reference::method::Method;
 use reference::pinned;
 use reference::planner::{Planner, Solved};
-use reference::prices;
+use reference::prices::{self, Operand};
 use reference::query::Query;
 use reference::random::Random;
 use reference::refusal::Refusal;
@@ -25,7 +25,7 @@ use reference::sets::{self, Set};
 use reference::solve;
 use reference::step::{self, Step};
 use reference::tree;
-use reference::units::{Bytes, Charge};
+use reference::units::Charge;
 
 type Answer = Result<Solved, Refusal>;
 
@@ -246,19 +246,16 @@ impl InCells<'_> {
     }
 
     fn price(&self, set: Set, first: Set, other: Set, at: usize) -> u64 {
-        let read = |part: Set| {
+        let operand = |part: Set| {
             let relation = self.query.relations[sets::lowest(part)];
-            match sets::count(part) == 1 && relation.index && relation.home == at {
-                true => Bytes(0),
-                false => self.query.size(part),
-            }
+            let qualifies = sets::count(part) == 1 && relation.index && relation.home == at;
+            Operand { size: self.query.size(part), qualifies }
         };
         let site = &self.query.sites[at];
-        let price = || prices::join(site, read(first), read(other), self.query.size(set)).0;
-        if site.may_join {
-            price()
-        } else {
-            NONE
+        let reads = prices::reads([first, other].map(operand));
+        match site.may_join {
+            true => prices::join(site, reads, self.query.size(set)).0,
+            false => NONE,
         }
     }
 

@@ -9,6 +9,7 @@ use crate::encode;
 use crate::listing;
 use crate::method::Method;
 use crate::pinned;
+use crate::pinned_indexes;
 
 pub const DEFAULT_SEED: u64 = 1;
 /// Random files tried for each method.
@@ -35,7 +36,9 @@ pub fn told_apart(
     answer: impl FnOnce(&[u8]) -> io::Result<String>,
 ) -> io::Result<Verdict> {
     let rows = pinned::rows().into_iter().map(|(query, _)| query);
-    let pinned = rows.chain([pinned::lower_site_at_a_tie()]).map(|query| encode::encode(&query));
+    let indexes = pinned_indexes::worked().into_iter().map(|worked| worked.query);
+    let pinned = rows.chain([pinned::lower_site_at_a_tie()]).chain(indexes);
+    let pinned = pinned.map(|query| encode::encode(&query));
     let random = (0..files).map(|case| cases::random_file(seed, case));
     let apart = pinned.chain(random).filter(|file| differ(method, file));
     let Some(file) = apart.min_by_key(|file| file.len()) else {

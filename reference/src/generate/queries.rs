@@ -173,10 +173,15 @@ fn sites(random: &mut Random, count: usize, mood: Mood) -> Vec<Site> {
     (0..count).map(site).collect()
 }
 
+/// Half the time one or two homes hold all relations, and half of these or all have an index:
+/// both operands of a join then often qualify.
 fn relations(random: &mut Random, count: usize, sites: usize) -> Vec<Relation> {
-    let index = random.pick(&[0, 30, 70, 100]);
-    let used = random.between(1, sites as u64) as usize;
-    let relation = |_| Relation { home: random.below(used), index: random.percent(index) };
+    let (index, most_homes) = match random.percent(50) {
+        true => (random.pick(&[50, 100]), sites.min(2)),
+        false => (random.pick(&[0, 30, 70, 100]), sites),
+    };
+    let homes = random.between(1, most_homes as u64) as usize;
+    let relation = |_| Relation { home: random.below(homes), index: random.percent(index) };
     (0..count).map(relation).collect()
 }
 
