@@ -11,7 +11,7 @@ use lib.ListN.{length, getD, set, length-set}
 use lib.Seq.{getD-set-same, getD-set-other}
 use Rattle.query.specs.Choice.{pick}
 use Rattle.board.specs.Figures.{Lanes}
-use Rattle.board.specs.Board.{lane}
+use Rattle.board.specs.Board.{entries, lane}
 use Rattle.board.specs.Laying.{Kept, Laid, Rows}
 
 -- What lies outside an area stays: where nothing is stored, where one entry of it is, and over two steps.
@@ -38,7 +38,7 @@ kept-then a b c l h m n lo hi x y p q s t =
 pub laid-none : (b : List ℕ) (i : ℕ) (g : ℕ → ℕ) → Laid b b i g 0
 laid-none b i g = record { kept = kept-none b (8 * i) (8 * i + 8); each = below-none _ }
 
-pub laid-next : (old new : List ℕ) (i k v : ℕ) (g : ℕ → ℕ) → Laid old new i g k → k < 8 → length old ≡ 256 → i < 32 → v ≡ g k →
+pub laid-next : (old new : List ℕ) (i k v : ℕ) (g : ℕ → ℕ) → Laid old new i g k → k < 8 → length old ≡ entries → i < 40 → v ≡ g k →
     Laid old (set new (8 * i + k) v) i g (k + 1)
 laid-next old new i k v g a h n l e =
     record {

@@ -1,95 +1,152 @@
 -- The steps of laying a board out: each leaves its own rows, and what the steps before it laid.
 use Prim.Native.Nat.{ℕ, _+_, _*_, _^_, _≤_, _<_}
 use native.Mathlib.Omega.{arith}
-use mathlib.Core.Path.{_≡_, refl, ap, _∙_}
+use native.Mathlib.Nat.{le-antisymm}
+use mathlib.Core.Path.{_≡_, refl, sym, ap, subst, _∙_}
 use mathlib.Core.List.{List}
 use mathlib.Core.Bool.{Bool, true, false, _&&_}
 use borrow.Author.Count.{below-none, below-more}
-use borrow.Author.Tests.{eqb-true, eqb-false}
+use borrow.Author.Tests.{ne-eqb, eqb-true, eqb-false}
 use lib.Dec.{eqb}
 use lib.ListN.{length, getD, set, length-set}
-use lib.Seq.{getD-set-same}
-use Rattle.relations.specs.Sets.{bit}
-use Rattle.relations.proofs.Bits.{bit-none, bit-pow, bit-pow-other}
+use lib.Pow.{pow-mono}
+use lib.Seq.{getD-set-same, getD-set-other}
+use mir.Syntax.{w64}
+use mir.Val.{Fits}
+use Rattle.relations.specs.Code.{mostSets}
 use Rattle.query.specs.declared.Sites.{Sites}
-use Rattle.query.specs.Choice.{pick}
-use Rattle.query.specs.Masks.{countedMask}
+use Rattle.query.specs.Spared.{spareable, spared}
+use Rattle.query.proofs.Prices.{spared-alone}
 use Rattle.board.specs.Figures.{Lanes}
-use Rattle.board.specs.Laying.{Kept, Laid, JoiningLaid, RelationsLaid, LinesLaid, ifFlagged, countedIn, lineFixedIn, lineRateIn}
+use Rattle.board.specs.Board.{entries, lane}
+use Rattle.board.specs.Laying.{Kept, Laid, JoiningLaid, RelationsLaid, PairsLaid, LinesLaid, ifFlagged, spareableIn, lineFixedIn, lineRateIn}
 use Rattle.board.proofs.Laid.{kept-none, kept-set, kept-then, laid-as, rows-below, rows-above, rows-more}
 
--- The mask of a read by a bit.
-pub counted-lane : (v m S k : ℕ) → v ≡ bit S k → m ≡ countedMask (eqb v 1) → m ≡ countedMask (eqb (bit S k) 1)
-counted-lane v m S k e h = cc
-
--- Where a relation's read is spared: at its home, if it has its index.
-spared-lane : (h k i : ℕ) → eqb (bit (pick (eqb i 1) (2 ^ h) 0) k) 1 ≡ (eqb h k && eqb i 1)
-spared-lane h k i = go (eqb h k) (eqb i 1) refl
-  where
-    go : (s t : Bool) → eqb h k ≡ s → eqb (bit (pick t (2 ^ h) 0) k) 1 ≡ (s && t)
-    go true true e = rw (← eqb-true h k e, bit-pow h)
-    go false true e = rw (bit-pow-other h k (eqb-false h k e))
-    go true false e = rw (bit-none k)
-    go false false e = rw (bit-none k)
-
 -- The rows of the joins and of joining: each is laid once, and no later row of the four touches it.
-pub joining-laid : (a b c d e v w f g ends sides : List ℕ) (s : Sites) → length a ≡ 256 →
+pub joining-laid : (a b c d e v w f g ends sides : List ℕ) (s : Sites) → length a ≡ entries →
     Laid a b 0 (λ i. getD v i 0) 8 → Laid b c 1 (λ i. getD w i 0) 8 → Laid c d 2 (λ k. getD f k 0) 8 → Laid d e 3 (λ k. getD g k 0) 8 →
     Lanes v (λ i. getD ends i 0) → Lanes w (λ i. getD sides i 0) →
     Lanes f (λ k. ifFlagged (getD (s .may) k 0) (getD (s .fixed) k 0)) → Lanes g (λ k. getD (s .rate) k 0) →
-    JoiningLaid e ends sides s
+    JoiningLaid a e ends sides s
 joining-laid a b c d e v w f g ends sides s n one two three four vs ws fs gs =
     record {
       long = four .kept .long ∙ three .kept .long ∙ two .kept .long ∙ one .kept .long ∙ n;
+      later = λ j h. four .kept .above j (omega arith) ∙ three .kept .above j (omega arith) ∙ two .kept .above j (omega arith) ∙ one .kept .above j (omega arith);
       ends-row = λ i h. four .kept .below (0 + i) (omega arith) ∙ three .kept .below (0 + i) (omega arith) ∙ two .kept .below (0 + i) (omega arith) ∙ one .each i h ∙ vs .each i h;
       sides-row = λ i h. four .kept .below (8 + i) (omega arith) ∙ three .kept .below (8 + i) (omega arith) ∙ two .each i h ∙ ws .each i h;
       fixed-row = λ k h. four .kept .below (16 + k) (omega arith) ∙ three .each k h ∙ fs .each k h;
       rate-row = λ k h. four .each k h ∙ gs .each k h;
     }
 
--- A home that was looked up is a bit of a word.
-pub home-within : (home : List ℕ) (count r k : ℕ) → ((i : ℕ) → i < count → getD home i 0 < 64) → k ≡ getD home r 0 → r < count → k < 64
-home-within home count r k low at h = rw at (low r h)
+-- A relation alone is a set among those that arrays over sets have room for.
+pub alone-low : (r m : ℕ) → r < 9 → m ≡ 2 ^ r → m < mostSets
+alone-low r m h e = let most : 2 ^ r ≤ 2 ^ 8 = pow-mono {j = 8} (omega arith) in omega arith
 
--- The relations: none, one more, and all of them.
-module _ (home index : List ℕ) where
-  pub relations-none : (b : List ℕ) → RelationsLaid b b home index 0
-  relations-none b = record { kept = kept-none b 32 256; counted = below-none _; homes = below-none _ }
+pub alone-fits : (r m : ℕ) → r < 9 → m ≡ 2 ^ r → Fits w64 (m * 4)
+alone-fits r m h e = record { fits = omega (arith, alone-low r m h e) }
 
-  pub relations-long : (old a : List ℕ) (r i v : ℕ) → RelationsLaid old a home index r → length old ≡ 256 → length (set a i v) ≡ 256
-  relations-long old a r i v l n = length-set a i v ∙ l .kept .long ∙ n
+-- What can be spared, noted in a row at one site.
+pub spare-laid : (a : List ℕ) (i site size u : ℕ) → length a ≡ entries → i < 40 → site < 8 → u ≡ spared (lane a i site) size →
+    Laid a (set a (8 * i + site) u) i (λ k. spared (lane a i k) (spareable (eqb site k) size)) 8
+spare-laid a i site size u n l low e =
+    record { kept = kept-set a (8 * i + site) u (8 * i) (8 * i + 8) (omega arith) (omega arith); each = λ k h. go k h (eqb site k) refl }
+  where
+    go : (k : ℕ) → k < 8 → (s : Bool) → eqb site k ≡ s → lane (set a (8 * i + site) u) i k ≡ spared (lane a i k) (spareable s size)
+    go k h true q = rw (← eqb-true site k q) (getD-set-same a (8 * i + site) u 0 (omega arith) ∙ e)
+    go k h false q = getD-set-other a (8 * i + site) (8 * i + k) u 0 (λ m. eqb-false site k q (omega arith)) ∙ sym (spared-alone (lane a i k) .0)
 
-  pub relations-more : (old a b row : List ℕ) (r k v s x : ℕ) → RelationsLaid old a home index r → r < 9 → length old ≡ 256 →
-      k ≡ getD home r 0 → v ≡ 2 ^ k → s ≡ pick (eqb (getD index r 0) 1) v 0 → Lanes row (λ k. countedMask (eqb (bit s k) 1)) →
-      Laid (set a (240 + r) x) b (4 + r) (λ k. getD row k 0) 8 → x ≡ v → RelationsLaid old b home index (r + 1)
-  relations-more old a b row r k v s x l h n at of spared lanes laid same =
+-- The relations: one in a row, with its index and without; then none, one more, and all of them in theirs.
+module _ (home index sizes : List ℕ) where
+  pub index-laid : (a b : List ℕ) (i r h m size : ℕ) → h ≡ getD home r 0 → m ≡ 2 ^ r → size ≡ getD sizes m 0 → getD index r 0 ≡ 1 →
+      Laid a b i (λ k. spared (lane a i k) (spareable (eqb h k) size)) 8 → Laid a b i (λ k. spared (lane a i k) (spareableIn home index sizes r k)) 8
+  unfolding spareableIn
+  index-laid a b i r h m size at single of flagged laid =
+      record { kept = laid .kept; each = λ k low. laid .each k low ∙ ap (spared (lane a i k)) (is k) }
+    where
+      both : (t : Bool) → t ≡ (t && true)
+      both true = refl
+      both false = refl
+
+      is : (k : ℕ) → spareable (eqb h k) size ≡ spareableIn home index sizes r k
+      is k = rw (of, single, at, flagged) (ap (λ (t : Bool). spareable t (getD sizes (2 ^ r) 0)) (both (eqb (getD home r 0) k)))
+
+  pub no-index-laid : (a : List ℕ) (i r : ℕ) → (getD index r 0 ≡ 1 → ⊥) → Laid a a i (λ k. spared (lane a i k) (spareableIn home index sizes r k)) 8
+  unfolding spareableIn
+  no-index-laid a i r plain =
+      record { kept = kept-none a (8 * i) (8 * i + 8); each = λ k low. rw (ne-eqb (getD index r 0) 1 plain) (sym (none k (eqb (getD home r 0) k))) }
+    where
+      none : (k : ℕ) (t : Bool) → spared (lane a i k) (spareable (t && false) (getD sizes (2 ^ r) 0)) ≡ lane a i k
+      none k true = spared-alone (lane a i k) .0
+      none k false = spared-alone (lane a i k) .0
+
+  pub relations-none : (b : List ℕ) → RelationsLaid b b home index sizes 0
+  relations-none b = record { long = refl; before = λ j h. refl; between = λ j h g. refl; spareables = below-none _; homes = below-none _ }
+
+  pub relations-long : (old a : List ℕ) (r i v : ℕ) → RelationsLaid old a home index sizes r → length old ≡ entries → length (set a i v) ≡ entries
+  relations-long old a r i v l n = length-set a i v ∙ l .long ∙ n
+
+  pub relations-more : (old a b : List ℕ) (r k v x : ℕ) → RelationsLaid old a home index sizes r → r < 9 → length old ≡ entries → k ≡ getD home r 0 → v ≡ 2 ^ k → x ≡ v →
+      Laid (set a (304 + r) x) b (4 + r) (λ k. spared (lane (set a (304 + r) x) (4 + r) k) (spareableIn home index sizes r k)) 8 →
+      RelationsLaid old b home index sizes (r + 1)
+  relations-more old a b r k v x l h n at of same laid =
       record {
-        kept = kept-then old mid b 32 256 (8 * (4 + r)) (8 * (4 + r) + 8) 32 256
-            (kept-then old a mid 32 256 (240 + r) (241 + r) 32 256 (l .kept) stored (omega arith) (omega arith) (omega arith) (omega arith)) (laid .kept)
-            (omega arith) (omega arith) (omega arith) (omega arith);
-        counted = rows-more mid b 4 (countedIn home index) r (rows-below a mid 4 (countedIn home index) r (l .counted) (240 + r) (241 + r) stored (omega arith)) row-is;
-        homes = below-more (λ (i : ℕ). getD b (240 + i) 0 ≡ 2 ^ getD home i 0) r
-            (λ i m. laid .kept .above (240 + i) (omega arith) ∙ stored .below (240 + i) (omega arith) ∙ l .homes i m)
-            (laid .kept .above (240 + r) (omega arith) ∙ getD-set-same a (240 + r) x 0 (omega (arith, l .kept .long)) ∙ same ∙ homes);
+        long = laid .kept .long ∙ stored .long ∙ l .long;
+        before = λ j g. laid .kept .below j (omega arith) ∙ stored .below j (omega arith) ∙ l .before j g;
+        between = λ j g m. laid .kept .above j (omega arith) ∙ stored .below j (omega arith) ∙ l .between j (omega arith) m;
+        spareables = rows-more mid b 4 rows r (rows-below a mid 4 rows r (l .spareables) (304 + r) (305 + r) stored (omega arith)) row-is;
+        homes = below-more (λ (i : ℕ). getD b (304 + i) 0 ≡ 2 ^ getD home i 0) r
+            (λ i m. laid .kept .above (304 + i) (omega arith) ∙ stored .below (304 + i) (omega arith) ∙ l .homes i m)
+            (laid .kept .above (304 + r) (omega arith) ∙ getD-set-same a (304 + r) x 0 (omega (arith, l .long)) ∙ cc);
       }
     where
-      homes : v ≡ 2 ^ getD home r 0
-      homes = cc
-
       mid : List ℕ
-      mid = set a (240 + r) x
+      mid = set a (304 + r) x
 
-      stored : Kept a mid (240 + r) (241 + r)
-      stored = kept-set a (240 + r) x (240 + r) (241 + r) (omega arith) (omega arith)
+      rows : ℕ → ℕ → ℕ
+      rows i k = spared (lane old (4 + i) k) (spareableIn home index sizes i k)
 
-      mask-is : (k : ℕ) → countedMask (eqb (bit s k) 1) ≡ countedIn home index r k
-      mask-is k = rw (spared, homes) (ap countedMask (spared-lane (getD home r 0) k (getD index r 0)))
+      stored : Kept a mid (304 + r) (305 + r)
+      stored = kept-set a (304 + r) x (304 + r) (305 + r) (omega arith) (omega arith)
 
-      row-is : Laid mid b (4 + r) (countedIn home index r) 8
-      row-is = record { kept = laid .kept; each = λ k m. laid .each k m ∙ lanes .each k m ∙ mask-is k }
+      -- The row was not laid before.
+      row-is : Laid mid b (4 + r) (rows r) 8
+      row-is = record {
+        kept = laid .kept;
+        each = λ k m. laid .each k m
+            ∙ ap (λ (y : ℕ). spared y (spareableIn home index sizes r k)) (stored .below (8 * (4 + r) + k) (omega arith) ∙ l .between (8 * (4 + r) + k) (omega arith) (omega arith));
+      }
 
-  pub relations-all : (old new : List ℕ) (r n : ℕ) → RelationsLaid old new home index r → n ≤ r → RelationsLaid old new home index n
-  relations-all old new r n l h = record { kept = l .kept; counted = λ i m. l .counted i (omega arith); homes = λ i m. l .homes i (omega arith) }
+  pub relations-all : (old new : List ℕ) (r n : ℕ) → RelationsLaid old new home index sizes r → r ≤ n → n ≤ r → RelationsLaid old new home index sizes n
+  relations-all old new r n l h g = subst (RelationsLaid old new home index sizes) (le-antisymm h g) l
+
+-- The rows of the joins: none, one more with both its relations, and all of them.
+module _ (spares : ℕ → ℕ → ℕ) (first second : List ℕ) where
+  pub pairs-none : (b : List ℕ) → PairsLaid b b spares first second 0
+  pairs-none b = record { kept = kept-none b 240 240; pairs = below-none _ }
+
+  pub pairs-long : (old a : List ℕ) (e : ℕ) → PairsLaid old a spares first second e → length old ≡ entries → length a ≡ entries
+  pairs-long old a e l n = l .kept .long ∙ n
+
+  pub pairs-more : (old a b c : List ℕ) (e x y : ℕ) → PairsLaid old a spares first second e → x ≡ getD first e 0 → y ≡ getD second e 0 →
+      Laid a b (30 + e) (λ k. spared (lane a (30 + e) k) (spares x k)) 8 → Laid b c (30 + e) (λ k. spared (lane b (30 + e) k) (spares y k)) 8 →
+      PairsLaid old c spares first second (e + 1)
+  pairs-more old a b c e x y l ex ey one two =
+      record {
+        kept = kept-then old a c 240 (8 * (30 + e)) (8 * (30 + e)) (8 * (30 + e) + 8) 240 (8 * (30 + (e + 1))) (l .kept) both (omega arith) (omega arith) (omega arith) (omega arith);
+        pairs = rows-more a c 30 rows e (l .pairs) (record { kept = both; each = row-is });
+      }
+    where
+      rows : ℕ → ℕ → ℕ
+      rows i k = spared (spared (lane old (30 + i) k) (spares (getD first i 0) k)) (spares (getD second i 0) k)
+
+      both : Kept a c (8 * (30 + e)) (8 * (30 + e) + 8)
+      both = kept-then a b c _ _ _ _ _ _ (one .kept) (two .kept) (omega arith) (omega arith) (omega arith) (omega arith)
+
+      row-is : (k : ℕ) → k < 8 → lane c (30 + e) k ≡ rows e k
+      row-is k h = two .each k h ∙ rw (one .each k h, l .kept .above (8 * (30 + e) + k) (omega arith), ex, ey)
+
+  pub pairs-all : (old new : List ℕ) (e n : ℕ) → PairsLaid old new spares first second e → e ≤ n → n ≤ e → PairsLaid old new spares first second n
+  pairs-all old new e n l h g = subst (PairsLaid old new spares first second) (le-antisymm h g) l
 
 -- The lines: those of no sender, of one more, and of all.
 module _ (flag fixed rate : List ℕ) where

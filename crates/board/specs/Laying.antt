@@ -7,9 +7,9 @@ use lib.Dec.{eqb}
 use lib.ListN.{length, getD}
 use Rattle.query.specs.declared.Sites.{Sites}
 use Rattle.query.specs.Choice.{pick}
-use Rattle.query.specs.Masks.{countedMask}
+use Rattle.query.specs.Spared.{spareable, spared}
 use Rattle.board.specs.Figures.{noneMark}
-use Rattle.board.specs.Board.{lane}
+use Rattle.board.specs.Board.{entries, lane}
 
 -- Every entry before lo and from hi on is as it was.
 pub record Kept (old new : List ℕ) (lo hi : ℕ) : Type 0 where
@@ -30,9 +30,9 @@ Rows b i g m = (r : ℕ) → r < m → (k : ℕ) → k < 8 → lane b (i + r) k 
 abbrev pub ifFlagged : ℕ → ℕ → ℕ
 ifFlagged flag amount = pick (eqb flag 1) amount noneMark
 
--- What the board has, by the query's lists: the mask of the read of relation r at site k, the fixed amount and the rate of the line from k to t.
-abbrev pub countedIn : (home index : List ℕ) → ℕ → ℕ → ℕ
-countedIn home index r k = countedMask (eqb (getD home r 0) k && eqb (getD index r 0) 1)
+-- What the board has, by the query's lists: what the index of relation r can spare at site k, the fixed amount and the rate of the line from k to t.
+unfoldable pub spareableIn : (home index sizes : List ℕ) → ℕ → ℕ → ℕ
+spareableIn home index sizes r k = spareable (eqb (getD home r 0) k && eqb (getD index r 0) 1) (getD sizes (2 ^ r) 0)
 
 abbrev pub lineFixedIn : (flag fixed : List ℕ) → ℕ → ℕ → ℕ
 lineFixedIn flag fixed k t = pick (eqb k t) 0 (ifFlagged (getD flag (8 * k + t) 0) (getD fixed (8 * k + t) 0))
@@ -40,19 +40,28 @@ lineFixedIn flag fixed k t = pick (eqb k t) 0 (ifFlagged (getD flag (8 * k + t) 
 abbrev pub lineRateIn : List ℕ → ℕ → ℕ → ℕ
 lineRateIn rate k t = pick (eqb k t) 0 (getD rate (8 * k + t) 0)
 
--- The rows of the joins and of joining are laid, by the ends and sides of the joins and by the sites.
-pub record JoiningLaid (new ends sides : List ℕ) (s : Sites) : Type 0 where
-  pub long : length new ≡ 256
+-- The rows of the joins and of joining are laid, by the ends and sides of the joins and by the sites; all after these rows is as it was.
+pub record JoiningLaid (old new ends sides : List ℕ) (s : Sites) : Type 0 where
+  pub long : length new ≡ entries
+  pub later : (j : ℕ) → 32 ≤ j → getD new j 0 ≡ getD old j 0
   pub ends-row : (e : ℕ) → e < 8 → lane new 0 e ≡ getD ends e 0
   pub sides-row : (e : ℕ) → e < 8 → lane new 1 e ≡ getD sides e 0
   pub fixed-row : (k : ℕ) → k < 8 → lane new 2 k ≡ ifFlagged (getD (s .may) k 0) (getD (s .fixed) k 0)
   pub rate-row : (k : ℕ) → k < 8 → lane new 3 k ≡ getD (s .rate) k 0
 
--- The rows and the homes of the first m relations are laid; all before the rows is as it was.
-pub record RelationsLaid (old new home index : List ℕ) (m : ℕ) : Type 0 where
-  pub kept : Kept old new 32 256
-  pub counted : Rows new 4 (countedIn home index) m
-  pub homes : (r : ℕ) → r < m → getD new (240 + r) 0 ≡ 2 ^ getD home r 0
+-- The rows and the homes of the first m relations are laid, what can be spared beside what the rows had; all before these rows and between them and
+-- the homes is as it was.
+pub record RelationsLaid (old new home index sizes : List ℕ) (m : ℕ) : Type 0 where
+  pub long : length new ≡ length old
+  pub before : (j : ℕ) → j < 32 → getD new j 0 ≡ getD old j 0
+  pub between : (j : ℕ) → 8 * (4 + m) ≤ j → j < 304 → getD new j 0 ≡ getD old j 0
+  pub spareables : Rows new 4 (λ (r k : ℕ). spared (lane old (4 + r) k) (spareableIn home index sizes r k)) m
+  pub homes : (r : ℕ) → r < m → getD new (304 + r) 0 ≡ 2 ^ getD home r 0
+
+-- The rows of the first m joins are laid, with what can be spared of both relations beside what the rows had; all outside these rows is as it was.
+pub record PairsLaid (old new : List ℕ) (spares : ℕ → ℕ → ℕ) (first second : List ℕ) (m : ℕ) : Type 0 where
+  pub kept : Kept old new 240 (8 * (30 + m))
+  pub pairs : Rows new 30 (λ (e k : ℕ). spared (spared (lane old (30 + e) k) (spares (getD first e 0) k)) (spares (getD second e 0) k)) m
 
 -- The rows of the lines of the first m senders are laid; all before and after these rows is as it was.
 pub record LinesLaid (old new flag fixed rate : List ℕ) (m : ℕ) : Type 0 where

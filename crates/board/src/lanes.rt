@@ -1,8 +1,12 @@
-// The board: the query as the loops take it, laid out once a solve in 32 rows of eight lanes. Lane k of row i stands at 8 * i + k.
+// The board: the query as the loops take it, laid out once a solve in rows of eight lanes. Lane k of row i stands at 8 * i + k.
+use relations::Parts;
 ghost use Prim.Native.Nat.{_*_, _+_, _<_};
 ghost use mathlib.Core.Path.{_≡_};
 ghost use Rattle.relations.specs.Code.{mostSets};
-ghost use Rattle.board.specs.Board.{endsAt, sideAt, countedRow, countedAt, homesAt, joinsAt, sitesAt};
+ghost use Rattle.board.specs.Board.{endsAt, sideAt, operandRow, sparedRow, homesAt, joinsAt, sitesAt};
+
+// How many entries it has: forty rows.
+pub const BOARD: usize = 320;
 
 // The ends and the side of each join, the fixed amount and the rate of joining at each site.
 pub(crate) const ENDS: usize = 0;
@@ -13,25 +17,28 @@ pub const FIXED: usize = 2;
 
 pub const RATE: usize = 3;
 
-// For each relation, and after them for a joined result, the mask of its read at each site.
-pub(crate) const COUNTED: usize = 4;
+// For each relation what its index can spare at each site; then for a joined result, of which nothing can be spared.
+pub(crate) const SPAREABLE: usize = 4;
 
-pub(crate) const COUNTED_JOINED: usize = 13;
+pub(crate) const NOTHING: usize = 13;
 
 // For each sender the fixed amounts and the rates of its lines.
 pub const LINE_FIXED: usize = 14;
 
 pub const LINE_RATE: usize = 22;
 
+// For each join what is spared at each site where its two relations are joined.
+pub(crate) const PAIRS: usize = 30;
+
 // The entries after the rows: for each relation the set of sites where it stands, and the numbers of joins and of sites.
-pub(crate) const HOMES: usize = 240;
+pub(crate) const HOMES: usize = 304;
 
-pub(crate) const JOINS: usize = 249;
+pub(crate) const JOINS: usize = 313;
 
-pub(crate) const SITES: usize = 250;
+pub(crate) const SITES: usize = 314;
 
 // The ends of join e, as a set.
-pub fn ends_at(board: &[u64; 256], e: usize) -> usize
+pub fn ends_at(board: &[u64; BOARD], e: usize) -> usize
     requires { ⌜ e < 8 ⌝ }
     ensures { λ r. ⌜ r ≡ endsAt (now (board .entry)) e ⌝ }
 {
@@ -39,7 +46,7 @@ pub fn ends_at(board: &[u64; 256], e: usize) -> usize
 }
 
 // The relations on the first relation's side of join e.
-pub fn side_at(board: &[u64; 256], e: usize) -> usize
+pub fn side_at(board: &[u64; BOARD], e: usize) -> usize
     requires { ⌜ e < 8 ⌝ }
     ensures { λ r. ⌜ r ≡ sideAt (now (board .entry)) e ⌝ }
 {
@@ -47,41 +54,46 @@ pub fn side_at(board: &[u64; 256], e: usize) -> usize
 }
 
 // The sites where relation r stands.
-pub fn homes_at(board: &[u64; 256], r: usize) -> usize
+pub fn homes_at(board: &[u64; BOARD], r: usize) -> usize
     requires { ⌜ r < 9 ⌝ }
     ensures { λ v. ⌜ v ≡ homesAt (now (board .entry)) r ⌝ }
 {
     board[HOMES + r] as usize
 }
 
-pub fn joins_of(board: &[u64; 256]) -> usize
+pub fn joins_of(board: &[u64; BOARD]) -> usize
     ensures { λ r. ⌜ r ≡ joinsAt (now (board .entry)) ⌝ }
 {
     board[JOINS] as usize
 }
 
-pub fn sites_of(board: &[u64; 256]) -> usize
+pub fn sites_of(board: &[u64; BOARD]) -> usize
     ensures { λ r. ⌜ r ≡ sitesAt (now (board .entry)) ⌝ }
 {
     board[SITES] as usize
 }
 
-// The row of the masks of a set's read: its relation's, or that of joined results.
-fn counted_row(set: usize) -> usize
+// The row with what can be spared of a set: its relation's, or that of joined results.
+fn operand_row(set: usize) -> usize
     requires { ⌜ set < mostSets ⌝ }
-    ensures { λ r. ⌜ (r ≡ countedRow set) × (r < 14) ⌝ }
+    ensures { λ r. ⌜ (r ≡ operandRow set) × (r < 14) ⌝ }
 {
     if usize::count_ones(set) == 1 {
-        return COUNTED + usize::trailing_zeros(set) as usize;
+        return SPAREABLE + usize::trailing_zeros(set) as usize;
     }
-    COUNTED_JOINED
+    NOTHING
 }
 
-// The mask of a set's read at site k.
-pub fn counted_at(board: &[u64; 256], set: usize, k: usize) -> u64
-    requires { ⌜ (set < mostSets) × (k < 8) ⌝ }
-    ensures { λ r. ⌜ r ≡ countedAt (now (board .entry)) set k ⌝ }
+// The row with what is spared where two parts are joined by join e. Only two relations can both qualify, and these have the join's own row.
+pub fn spared_row(parts: Parts, e: usize) -> usize
+    requires { ⌜ ((parts .first < mostSets) × (parts .second < mostSets)) × (e < 8) ⌝ }
+    ensures { λ r. ⌜ (r ≡ sparedRow (parts .first) (parts .second) e) × (r < 38) ⌝ }
 {
-    let row = counted_row(set);
-    board[8 * row + k]
+    if usize::count_ones(parts.first) != 1 {
+        return operand_row(parts.second);
+    }
+    if usize::count_ones(parts.second) != 1 {
+        return operand_row(parts.first);
+    }
+    PAIRS + e
 }

@@ -1,21 +1,23 @@
 // Laying out the board of a query, row by row.
 use crate::figures::NONE;
-use crate::lanes::COUNTED;
-use crate::lanes::COUNTED_JOINED;
+use crate::lanes::BOARD;
 use crate::lanes::ENDS;
 use crate::lanes::FIXED;
 use crate::lanes::HOMES;
 use crate::lanes::JOINS;
 use crate::lanes::LINE_FIXED;
 use crate::lanes::LINE_RATE;
+use crate::lanes::PAIRS;
 use crate::lanes::RATE;
 use crate::lanes::SIDES;
 use crate::lanes::SITES;
+use crate::lanes::SPAREABLE;
+use query::Bytes;
 use query::Query;
 use query::Sites;
 use query::amount;
-use query::price::mask;
-use relations::bit;
+use query::price::spared;
+use relations::SETS;
 use relations::ends;
 use relations::sides;
 use relations::single;
@@ -24,17 +26,15 @@ ghost use Prim.Native.Nat.{ℕ, _≤_, _<_};
 ghost use mathlib.Core.Path.{_≡_};
 ghost use lib.Dec.{eqb};
 ghost use lib.ListN.{length, getD};
-ghost use Rattle.relations.specs.Sets.{bit};
-ghost use Rattle.query.specs.Choice.{pick};
-ghost use Rattle.query.specs.Masks.{countedMask};
+ghost use Rattle.query.specs.Spared.{spareable, spared};
 ghost use Rattle.query.specs.Query.{Valid};
 ghost use Rattle.board.specs.Figures.{Lanes};
-ghost use Rattle.board.specs.Board.{BoardOf};
-ghost use Rattle.board.specs.Laying.{Laid, JoiningLaid, RelationsLaid, LinesLaid, ifFlagged, lineFixedIn, lineRateIn};
+ghost use Rattle.board.specs.Board.{entries, lane, BoardOf};
+ghost use Rattle.board.specs.Laying.{Laid, JoiningLaid, RelationsLaid, PairsLaid, LinesLaid, ifFlagged, spareableIn, lineFixedIn, lineRateIn};
 
 // Stores a row.
-fn lay(board: &mut [u64; 256], i: usize, row: [u64; 8])
-    requires { ⌜ (length (now board) ≡ 256) × (i < 32) ⌝ }
+fn lay(board: &mut [u64; BOARD], i: usize, row: [u64; 8])
+    requires { ⌜ (length (now board) ≡ entries) × (i < 40) ⌝ }
     ensures { λ _. ⌜ Laid (now (board .entry)) (now (board .exit)) i (λ (k : ℕ). getD row k 0) 8 ⌝ }
 {
     let mut k = 0;
@@ -91,9 +91,9 @@ fn rate_row(rate: &[u32; 8]) -> [u64; 8]
 }
 
 // The rows of the joins and of joining.
-fn lay_joining(board: &mut [u64; 256], ends: [usize; 8], sides: [usize; 8], sites: Sites)
-    requires { ⌜ length (now board) ≡ 256 ⌝ }
-    ensures { λ _. ⌜ JoiningLaid (now (board .exit)) ends sides sites ⌝ }
+fn lay_joining(board: &mut [u64; BOARD], ends: [usize; 8], sides: [usize; 8], sites: Sites)
+    requires { ⌜ length (now board) ≡ entries ⌝ }
+    ensures { λ _. ⌜ JoiningLaid (now (board .entry)) (now (board .exit)) ends sides sites ⌝ }
 {
     lay(&mut *board, ENDS, widened(ends));
     lay(&mut *board, SIDES, widened(sides));
@@ -101,42 +101,79 @@ fn lay_joining(board: &mut [u64; 256], ends: [usize; 8], sides: [usize; 8], site
     lay(&mut *board, RATE, rate_row(&sites.rate));
 }
 
-// The masks of a relation's read, by the set of sites where it is spared.
-fn counted_row(spared: usize) -> [u64; 8]
-    ensures { λ r. ⌜ Lanes r (λ (k : ℕ). countedMask (eqb (bit spared k) 1)) ⌝ }
+// Notes in a row what can be spared of one operand more, at the site where it stands: a join follows one index, so the larger stays.
+fn spare(board: &mut [u64; BOARD], i: usize, site: usize, size: Bytes)
+    requires { ⌜ (length (now board) ≡ entries) × ((i < 40) × (site < 8)) ⌝ }
+    ensures { λ _. ⌜ Laid (now (board .entry)) (now (board .exit)) i (λ (k : ℕ). spared (lane (now (board .entry)) i k) (spareable (eqb site k) (size .0))) 8 ⌝ }
 {
-    let mut row = [0u64; 8];
-    let mut k = 0;
-    while k < 8 {
-        row[k] = mask(bit(spared, k) == 1);
-        k += 1;
-    }
-    row
+    let at = 8 * i + site;
+    let larger = spared(Bytes(board[at]), size);
+    board[at] = larger.0;
 }
 
-// The sites where the read of a relation is spared: where it stands, if it has its index.
-fn spared_at(index: u8, homes: usize) -> usize
-    ensures { λ r. ⌜ r ≡ pick (eqb index 1) homes 0 ⌝ }
+// Notes in a row what the index of relation r can spare: its size at its home.
+fn spare_relation<'a>(
+    board: &mut [u64; BOARD],
+    i: usize,
+    home: &'a [u8; 9],
+    index: &'a [u8; 9],
+    sizes: &'a [u32; SETS],
+    r: usize,
+)
+    requires { ⌜ (length (now board) ≡ entries) × ((i < 40) × ((r < 9) × (getD (now home) r 0 < 8))) ⌝ }
+    ensures { λ _.
+        ⌜ Laid (now (board .entry)) (now (board .exit)) i
+        (λ (k : ℕ). spared (lane (now (board .entry)) i k) (spareableIn (now (home .entry)) (now (index .entry)) (now (sizes .entry)) r k)) 8 ⌝ }
 {
-    if index == 1 { homes } else { 0 }
+    if index[r] == 1 {
+        let size = Bytes(amount(sizes[single(r)]));
+        let site = wide(home[r]);
+        spare(&mut *board, i, site, size);
+    }
 }
 
 // The rows of the relations.
-fn lay_relations<'a>(board: &mut [u64; 256], home: &'a [u8; 9], index: &'a [u8; 9], count: usize)
-    requires { ⌜ (length (now board) ≡ 256) × (count ≤ 9) ⌝ }
-    requires { ⌜ ((r : ℕ) → r < count → getD (now home) r 0 < 64) ⌝ }
-    ensures { λ _. ⌜ RelationsLaid (now (board .entry)) (now (board .exit)) (now (home .entry)) (now (index .entry)) count ⌝ }
+fn lay_relations<'a>(
+    board: &mut [u64; BOARD],
+    home: &'a [u8; 9],
+    index: &'a [u8; 9],
+    sizes: &'a [u32; SETS],
+    count: usize,
+)
+    requires { ⌜ (length (now board) ≡ entries) × (count ≤ 9) ⌝ }
+    requires { ⌜ ((r : ℕ) → r < count → getD (now home) r 0 < 8) ⌝ }
+    ensures { λ _. ⌜ RelationsLaid (now (board .entry)) (now (board .exit)) (now (home .entry)) (now (index .entry)) (now (sizes .entry)) count ⌝ }
 {
     let mut r = 0;
     while r < count {
         let homes = single(wide(home[r]));
         board[HOMES + r] = homes as u64;
-        lay(
-            &mut *board,
-            COUNTED + r,
-            counted_row(spared_at(index[r], homes)),
-        );
+        spare_relation(&mut *board, SPAREABLE + r, home, index, sizes, r);
         r += 1;
+    }
+}
+
+// The rows of the joins: what is spared where their two relations are joined.
+fn lay_pairs<'a>(
+    board: &mut [u64; BOARD],
+    home: &'a [u8; 9],
+    index: &'a [u8; 9],
+    sizes: &'a [u32; SETS],
+    first: &'a [u8; 8],
+    second: &'a [u8; 8],
+    count: usize,
+)
+    requires { ⌜ (length (now board) ≡ entries) × (count ≤ 8) ⌝ }
+    requires { ⌜ ((e : ℕ) → e < count → ((getD (now first) e 0 < 9) × (getD (now home) (getD (now first) e 0) 0 < 8)) × ((getD (now second) e 0 < 9) × (getD (now home) (getD (now second) e 0) 0 < 8))) ⌝ }
+    ensures { λ _.
+        ⌜ PairsLaid (now (board .entry)) (now (board .exit)) (spareableIn (now (home .entry)) (now (index .entry)) (now (sizes .entry))) (now (first .entry)) (now (second .entry)) count ⌝ }
+{
+    let mut e = 0;
+    while e < count {
+        let row = PAIRS + e;
+        spare_relation(&mut *board, row, home, index, sizes, wide(first[e]));
+        spare_relation(&mut *board, row, home, index, sizes, wide(second[e]));
+        e += 1;
     }
 }
 
@@ -172,13 +209,13 @@ fn line_rate_row(rate: &[u32; 64], k: usize) -> [u64; 8]
 
 // The rows of the lines.
 fn lay_lines<'a>(
-    board: &mut [u64; 256],
+    board: &mut [u64; BOARD],
     flag: &'a [u8; 64],
     fixed: &'a [u32; 64],
     rate: &'a [u32; 64],
     count: usize,
 )
-    requires { ⌜ (length (now board) ≡ 256) × (count ≤ 8) ⌝ }
+    requires { ⌜ (length (now board) ≡ entries) × (count ≤ 8) ⌝ }
     ensures { λ _. ⌜ LinesLaid (now (board .entry)) (now (board .exit)) (now (flag .entry)) (now (fixed .entry)) (now (rate .entry)) count ⌝ }
 {
     let mut k = 0;
@@ -190,19 +227,28 @@ fn lay_lines<'a>(
 }
 
 // The board of a query.
-pub fn laid_out(q: Query) -> [u64; 256]
+pub fn laid_out(q: Query) -> [u64; BOARD]
     requires { ⌜ Valid q ⌝ }
     ensures { λ r. ⌜ BoardOf q r ⌝ }
 {
-    let mut board = [0u64; 256];
+    let mut board = [0u64; BOARD];
     lay_joining(&mut board, ends(q.joins), sides(q.joins), q.sites);
     lay_relations(
         &mut board,
         &q.relations.home,
         &q.relations.index,
+        &q.sizes,
         q.relations.count,
     );
-    lay(&mut board, COUNTED_JOINED, counted_row(0));
+    lay_pairs(
+        &mut board,
+        &q.relations.home,
+        &q.relations.index,
+        &q.sizes,
+        &q.joins.first,
+        &q.joins.second,
+        q.joins.count,
+    );
     lay_lines(
         &mut board,
         &q.lines.flag,

@@ -1,25 +1,28 @@
--- What a valid query's board gives: the masks of the reads, the price of a join and the carriage of a line are the definitions', and each keeps to
+-- What a valid query's board gives: what is spared of two parts, the price of a join and the carriage of a line are the definitions', and each keeps to
 -- the limits that the sums ask.
 use Prim.Native.Nat.{ℕ, _+_, _*_, _^_, _≤_, _<_}
 use native.Mathlib.Nat.{le-refl}
 use native.Mathlib.Omega.{arith}
-use mathlib.Core.Path.{_≡_, refl, sym, _∙_}
-use mathlib.Core.Bool.{Bool, true, false, _&&_}
+use mathlib.Core.Path.{_≡_, refl, sym, ap, _∙_}
+use mathlib.Core.Bool.{Bool, true, false}
 use lib.Count.{ones, trailingZeros}
 use lib.Dec.{eqb}
 use lib.ListN.{getD}
-use borrow.Author.Tests.{eqb-true}
-use Rattle.relations.proofs.Counts.{one-some, lowest-below, lowest-same}
+use borrow.Author.Tests.{eq-eqb, eqb-true}
+use Rattle.relations.specs.Sets.{bit}
+use Rattle.relations.specs.Growth.{first, second}
+use Rattle.relations.proofs.Counts.{one-some, lowest-below, single-of-ones, lowest-alone, lowest-same}
 use Rattle.query.specs.declared.Query.{Query}
 use Rattle.query.specs.Choice.{pick}
 use Rattle.query.specs.Cost.{none, some}
-use Rattle.query.specs.Query.{Valid, relationsOf, sitesOf, home, index, mayJoin, joinFixed, joinRate, isOpen, lineFixed, lineRate, size}
+use Rattle.query.specs.Query.{Valid, relationsOf, sitesOf, mayJoin, joinFixed, joinRate, isOpen, lineFixed, lineRate, size}
 use Rattle.query.specs.Prices.{lineCharge, linePrice, carriage, reads, joinPrice, dearestLine, indexed}
-use Rattle.query.specs.Masks.{countedMask}
-use Rattle.query.proofs.Prices.{mask-is, mask-spares, line-most}
+use Rattle.query.specs.Spared.{spareable, spared}
+use Rattle.query.proofs.Prices.{line-most, spareable-most, spared-most, spared-alone, reads-spared}
+use Rattle.query.proofs.Indexed.{one-of-nine}
 use Rattle.tables.specs.Tables.{only}
 use Rattle.board.specs.Figures.{noneMark}
-use Rattle.board.specs.Board.{lane, fixedAt, countedRow, countedAt, fixedOf, countedOf, lineFixedOf, lineRateOf}
+use Rattle.board.specs.Board.{lane, fixedAt, operandRow, sparedRow, fixedOf, spareableOf, lineFixedOf, lineRateOf}
 use Rattle.filler.specs.Trials.{Lent, sizeIn, priceIn, Priced, carriageIn, Carriable}
 use Rattle.filler.specs.Filling.{LaidOut}
 use Rattle.filler.proofs.Places.{set-low}
@@ -30,39 +33,79 @@ pub only-is : (q : Query) → Valid q → (S : ℕ) → S < 2 ^ relationsOf q �
 only-is q v S low one = sym (lowest-same (relationsOf q) 64 S (one-some S one) low (omega (arith, v .relations-most)))
 
 module _ (q : Query) (l : Lent) (laid : LaidOut q l) where
-  -- The mask of a set's read at a site says whether it is read by its index there.
-  pub mask-of : (S k : ℕ) → S < 2 ^ relationsOf q → k < 8 → countedAt (l .board) S k ≡ countedMask (indexed q S k)
-  unfolding countedRow countedOf indexed
-  mask-of S k low site = go (eqb (ones S) 1) refl
+  -- What the index of a query's relation can spare, as what qualifies of a set of it alone.
+  spareable-alone : (S k : ℕ) → S < 2 ^ relationsOf q → ones S ≡ 1 → spareableOf q (only q S) k ≡ spareable (indexed q S k) (size q S)
+  unfolding spareableOf indexed
+  spareable-alone S k low one = rw (eq-eqb (ones S) 1 one, ← single-of-ones (relationsOf q) S low one)
+
+  -- Nothing can be spared of two relations or more.
+  spareable-more : (S k : ℕ) → eqb (ones S) 1 ≡ false → spareable (indexed q S k) (size q S) ≡ 0
+  unfolding indexed
+  spareable-more S k more = rw more
+
+  operand-of : (S k : ℕ) → S < 2 ^ relationsOf q → k < 8 → lane (l .board) (operandRow S) k ≡ spareable (indexed q S k) (size q S)
+  unfolding operandRow
+  operand-of S k low site = go (eqb (ones S) 1) refl
     where
-      go : (o : Bool) → eqb (ones S) 1 ≡ o →
-          lane (l .board) (pick o (4 + trailingZeros 64 S) 13) k ≡ countedMask (o && (eqb (home q (only q S)) k && index q (only q S)))
+      go : (o : Bool) → eqb (ones S) 1 ≡ o → lane (l .board) (pick o (4 + trailingZeros 64 S) 13) k ≡ spareable (indexed q S k) (size q S)
       go true e =
           let one : ones S ≡ 1 = eqb-true (ones S) 1 e in
-          rw (only-is q (laid .valid) S low one) (laid .board .counted (only q S) k (lowest-below (relationsOf q) S (one-some S one) low) site)
-      go false e = laid .board .joined k site
+          rw (only-is q (laid .valid) S low one) (laid .board .spareables (only q S) k (lowest-below (relationsOf q) S (one-some S one) low) site)
+          ∙ spareable-alone S k low one
+      go false e = laid .board .nothing k site ∙ sym (spareable-more S k e)
+
+  -- Two parts of a subquery by join e, each within the query and with its end of the join.
+  pub record Ended (P R e : ℕ) : Type 0 where
+    pub join-in : e < q .joins .count
+    pub first-low : P < 2 ^ relationsOf q
+    pub second-low : R < 2 ^ relationsOf q
+    pub first-in : bit P (first (q .joins) e) ≡ 1
+    pub second-in : bit R (second (q .joins) e) ≡ 1
+
+  -- The row with what is spared where they are joined has just that.
+  spared-of : (P R e k : ℕ) → Ended P R e → k < 8 →
+      lane (l .board) (sparedRow P R e) k ≡ spared (spareable (indexed q P k) (size q P)) (spareable (indexed q R k) (size q R))
+  unfolding sparedRow
+  spared-of P R e k d site = go (eqb (ones P) 1) (eqb (ones R) 1) refl refl
+    where
+      v : ℕ
+      v = spareable (indexed q P k) (size q P)
+
+      w : ℕ
+      w = spareable (indexed q R k) (size q R)
+
+      alone : (S r : ℕ) → S < 2 ^ relationsOf q → eqb (ones S) 1 ≡ true → bit S r ≡ 1 → spareableOf q r k ≡ spareable (indexed q S k) (size q S)
+      alone S r low one here =
+          ap (λ (x : ℕ). spareableOf q x k) (sym (lowest-alone (relationsOf q) S r low (eqb-true (ones S) 1 one) here)) ∙ spareable-alone S k low (eqb-true (ones S) 1 one)
+
+      go : (o t : Bool) → eqb (ones P) 1 ≡ o → eqb (ones R) 1 ≡ t →
+          lane (l .board) (pick o (pick t (30 + e) (operandRow P)) (operandRow R)) k ≡ spared v w
+      go true true one other =
+          laid .board .pairs e k (d .join-in) site ∙ rw (alone P _ (d .first-low) one (d .first-in), alone R _ (d .second-low) other (d .second-in))
+      go true false one more = operand-of P k (d .first-low) site ∙ rw (spareable-more R k more) (sym (spared-alone v .0))
+      go false t more other = operand-of R k (d .second-low) site ∙ rw (spareable-more P k more) (sym (spared-alone w .1))
 
   -- What a join is charged: its price where the site may join, and no less than the figure of none where it may not.
-  charged : (P R k : ℕ) → P < 2 ^ relationsOf q → R < 2 ^ relationsOf q → k < 8 →
-      priceIn (l .board) (l .sizes) P R k ≡ fixedOf q k + joinRate q k * (reads (indexed q P k) (size q P) (indexed q R k) (size q R) + size q (P + R))
+  charged : (P R e k : ℕ) → Ended P R e → k < 8 →
+      priceIn (l .board) (l .sizes) P R (sparedRow P R e) k ≡ fixedOf q k + joinRate q k * (reads (indexed q P k) (size q P) (indexed q R k) (size q R) + size q (P + R))
   unfolding size
-  charged P R k p r site =
+  charged P R e k d site =
       rw (
         laid .board .fixed k site,
         laid .board .rate k site,
-        mask-spares (indexed q P k) (countedAt (l .board) P k) (mask-of P k p site),
-        mask-spares (indexed q R k) (countedAt (l .board) R k) (mask-of R k r site),
+        spared-of P R e k d site,
+        reads-spared (indexed q P k) (size q P) (indexed q R k) (size q R),
         laid .sizes,
       )
 
-  pub price-is : (P R k : ℕ) → P < 2 ^ relationsOf q → R < 2 ^ relationsOf q → k < 8 → mayJoin q k ≡ true →
-      priceIn (l .board) (l .sizes) P R k ≡ joinPrice q k (indexed q P k) P (indexed q R k) R
+  pub price-is : (P R e k : ℕ) → Ended P R e → k < 8 → mayJoin q k ≡ true →
+      priceIn (l .board) (l .sizes) P R (sparedRow P R e) k ≡ joinPrice q k (indexed q P k) P (indexed q R k) R
   unfolding fixedOf joinPrice
-  price-is P R k p r site may = charged P R k p r site ∙ rw may
+  price-is P R e k d site may = charged P R e k d site ∙ rw may
 
-  pub price-none : (P R k : ℕ) → P < 2 ^ relationsOf q → R < 2 ^ relationsOf q → k < 8 → mayJoin q k ≡ false → noneMark ≤ priceIn (l .board) (l .sizes) P R k
+  pub price-none : (P R e k : ℕ) → Ended P R e → k < 8 → mayJoin q k ≡ false → noneMark ≤ priceIn (l .board) (l .sizes) P R (sparedRow P R e) k
   unfolding fixedOf
-  price-none P R k p r site may = rw (charged P R k p r site, may) (omega arith)
+  price-none P R e k d site may = rw (charged P R e k d site, may) (omega arith)
 
   fixed-most : (k : ℕ) → k < 8 → fixedAt (l .board) k ≤ noneMark
   unfolding fixedOf joinFixed
@@ -72,16 +115,43 @@ module _ (q : Query) (l : Lent) (laid : LaidOut q l) where
       go true = omega (arith, laid .valid .join-fixed-most k)
       go false = le-refl _
 
-  pub priced : (P R k : ℕ) → P < 2 ^ relationsOf q → R < 2 ^ relationsOf q → P + R < 2 ^ relationsOf q → k < 8 → Priced (l .board) (l .sizes) P R k
+  -- The row stands on the board, and what is spared is within both sizes.
+  operand-low : (S : ℕ) → S < 2 ^ relationsOf q → operandRow S < 14
+  unfolding operandRow
+  operand-low S low = go (eqb (ones S) 1) refl
+    where
+      go : (o : Bool) → eqb (ones S) 1 ≡ o → pick o (4 + trailingZeros 64 S) 13 < 14
+      go true e = omega (arith, one-of-nine S (eqb-true (ones S) 1 e) (set-low q (laid .valid) S low))
+      go false e = omega arith
+
+  row-in : (P R e : ℕ) → Ended P R e → sparedRow P R e < 38
+  unfolding sparedRow
+  row-in P R e d = go (eqb (ones P) 1) (eqb (ones R) 1)
+    where
+      go : (o t : Bool) → pick o (pick t (30 + e) (operandRow P)) (operandRow R) < 38
+      go true true = omega (arith, d .join-in, laid .valid .tree .joins, laid .valid .relations-most)
+      go true false = omega (arith, operand-low P (d .first-low))
+      go false t = omega (arith, operand-low R (d .second-low))
+
+  within : (P R e k : ℕ) → Ended P R e → k < 8 → lane (l .board) (sparedRow P R e) k ≤ getD (l .sizes) P 0 + getD (l .sizes) R 0
+  unfolding size
+  within P R e k d site =
+      let x : ℕ = size q P in
+      let y : ℕ = size q R in
+      let one : spareable (indexed q P k) x ≤ x + y = omega (arith, spareable-most (indexed q P k) x) in
+      let other : spareable (indexed q R k) y ≤ x + y = omega (arith, spareable-most (indexed q R k) y) in
+      rw (spared-of P R e k d site, laid .sizes) (spared-most _ _ (x + y) one other)
+
+  pub priced : (P R e k : ℕ) → Ended P R e → P + R < 2 ^ relationsOf q → k < 8 → Priced (l .board) (l .sizes) P R (sparedRow P R e) k
   unfolding joinRate
-  priced P R k p r low site =
+  priced P R e k d low site =
       record {
         site-in = site;
+        row-in = row-in P R e d;
         set-in = set-low q (laid .valid) (P + R) low;
         fixed-most = fixed-most k site;
         rate-most = rw (laid .board .rate k site) (laid .valid .join-rate-most k);
-        first-mask = mask-is (indexed q P k) (countedAt (l .board) P k) (mask-of P k p site);
-        second-mask = mask-is (indexed q R k) (countedAt (l .board) R k) (mask-of R k r site);
+        spared-most = within P R e k d site;
         sizes-most = λ i. rw (laid .sizes) (laid .valid .sizes-most i);
       }
 

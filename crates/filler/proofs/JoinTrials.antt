@@ -25,7 +25,8 @@ use Rattle.tables.specs.Least.{best, least}
 use Rattle.tables.specs.Tables.{firstPart, otherPart, byJoin, joinedBy, delivered, joined}
 use Rattle.tables.specs.Theorems.{mostCost}
 use Rattle.board.specs.Figures.{noneMark, mark, leastOf, placeOf}
-use Rattle.filler.specs.Trials.{Lent, trialOf, partsAt, joinTrial, joinedIn}
+use Rattle.board.specs.Board.{sparedRow}
+use Rattle.filler.specs.Trials.{Lent, trialOf, partsAt, trialBy, joinTrial, joinedIn}
 use Rattle.filler.specs.Filling.{LaidOut, Filled}
 use Rattle.filler.proofs.Marks.{Shows, Kept, shows-mark, shows-both, kept-all, kept-rest, none-kept}
 use Rattle.filler.proofs.Boards.{price-is, price-none}
@@ -43,26 +44,26 @@ module _ (combine : ℕ → ℕ → ℕ) (C : Combines combine) (q : Query) (l :
   abbrev D : ℕ → ℕ → Cost
   D = delivered combine q
 
-  abbrev PartsHere : ℕ → ℕ → ℕ → Type 0
-  PartsHere P R k = Parts combine C q l laid S s filled P R k
+  abbrev PartsHere : ℕ → ℕ → ℕ → ℕ → Type 0
+  PartsHere P R e k = Parts combine C q l laid S s filled P R e k
 
   cell-shows : (P k : ℕ) → Subquery (q .joins) (relationsOf q) P → Shows mostCost (mark (D P k)) (D P k)
   cell-shows P k p = shows-mark mostCost (D P k) (delivered-up-to combine C q l laid S s filled P k p)
 
   -- A trial where the site may join, and where it may not.
-  trial-shows : (P R k : ℕ) → PartsHere P R k → mayJoin q k ≡ true →
-      Shows mostTrial (trialOf combine l P R k) (plus (both combine (D P k) (D R k)) (some (joinPrice q k (indexed q P k) P (indexed q R k) R)))
+  trial-shows : (P R e k : ℕ) → PartsHere P R e k → mayJoin q k ≡ true →
+      Shows mostTrial (trialOf combine l P R (sparedRow P R e) k) (plus (both combine (D P k) (D R k)) (some (joinPrice q k (indexed q P k) P (indexed q R k) R)))
   unfolding trialOf
-  trial-shows P R k p may =
+  trial-shows P R e k p may =
       let price : ℕ = joinPrice q k (indexed q P k) P (indexed q R k) R in
-      rw (price-is q l laid P R k (p .first-low) (p .second-low) (omega (arith, p .site-in, laid .valid .sites-most)) may, p .first-cell, p .second-cell)
+      rw (price-is q l laid P R e k (p .ended) (omega (arith, p .site-in, laid .valid .sites-most)) may, p .first-cell, p .second-cell)
       (shows-both _+_ plus-combines (mostCost + mostCost) dearestJoin (combine (mark (D P k)) (mark (D R k))) price (both combine (D P k) (D R k)) (some price)
       (shows-both combine C mostCost mostCost (mark (D P k)) (mark (D R k)) (D P k) (D R k) (cell-shows P k (p .first-part)) (cell-shows R k (p .second-part)))
       (refl, join-most q (laid .valid) k (indexed q P k) P (indexed q R k) R))
 
-  trial-none : (P R k : ℕ) → PartsHere P R k → mayJoin q k ≡ false → noneMark ≤ trialOf combine l P R k
+  trial-none : (P R e k : ℕ) → PartsHere P R e k → mayJoin q k ≡ false → noneMark ≤ trialOf combine l P R (sparedRow P R e) k
   unfolding trialOf
-  trial-none P R k p may = omega (arith, price-none q l laid P R k (p .first-low) (p .second-low) (omega (arith, p .site-in, laid .valid .sites-most)) may)
+  trial-none P R e k p may = omega (arith, price-none q l laid P R e k (p .ended) (omega (arith, p .site-in, laid .valid .sites-most)) may)
 
   -- A join's bit says whether it lies in S.
   bit-says : (e : ℕ) → e < q .joins .count → eqb (bit joins e) 1 ≡ inside (q .joins) S e
@@ -73,12 +74,12 @@ module _ (combine : ℕ → ℕ → ℕ) (C : Combines combine) (q : Query) (l :
       go false = refl
 
   -- The figure of a join: its trial where it lies in S, else none.
-  join-case : (X : ℕ → Type 0) (k e : ℕ) → (e < q .joins .count → inside (q .joins) S e ≡ true → X (trialOf combine l (firstPart q S e) (otherPart q S e) k)) →
+  join-case : (X : ℕ → Type 0) (k e : ℕ) → (e < q .joins .count → inside (q .joins) S e ≡ true → X (trialOf combine l (firstPart q S e) (otherPart q S e) (sparedRow (firstPart q S e) (otherPart q S e) e) k)) →
       ((e < q .joins .count → inside (q .joins) S e ≡ false) → X noneMark) → X (joinTrial combine l joins S k e)
   unfolding joinTrial
   join-case X k e here out = go (eqb (bit joins e) 1) refl
     where
-      go : (b : Bool) → eqb (bit joins e) 1 ≡ b → X (pick b (trialOf combine l (partsAt l S e .first) (partsAt l S e .second) k) noneMark)
+      go : (b : Bool) → eqb (bit joins e) 1 ≡ b → X (pick b (trialBy combine l (partsAt l S e) e k) noneMark)
       go true one =
           let found = join-of-bit (q .joins) S (q .joins .count) e (eqb-true (bit joins e) 1 one) in
           rw (part-of q l laid S s e (found .0) (found .1)) (here (found .0) (found .1))
@@ -88,7 +89,7 @@ module _ (combine : ℕ → ℕ → ℕ) (C : Combines combine) (q : Query) (l :
   unfolding byJoin
   join-shows k e site may h =
       join-case (λ x. Shows mostTrial x (byJoin combine D q S k e)) k e
-      (λ low within. rw within (trial-shows (firstPart q S e) (otherPart q S e) k (parts-of combine C q l laid S s filled e k low within site) may))
+      (λ low within. rw within (trial-shows (firstPart q S e) (otherPart q S e) e k (parts-of combine C q l laid S s filled e k low within site) may))
       (λ outside. rw (outside h) (le-refl _))
 
   -- The least over the joins at a site that may join, and the lowest join of it. The loops try eight: the further ones are none.
@@ -110,5 +111,5 @@ module _ (combine : ℕ → ℕ → ℕ) (C : Combines combine) (q : Query) (l :
       go false may =
           none-kept (joinTrial combine l joins S k) 8 λ e.
           join-case (λ x. noneMark ≤ x) k e
-          (λ low within. trial-none (firstPart q S e) (otherPart q S e) k (parts-of combine C q l laid S s filled e k low within site) may)
+          (λ low within. trial-none (firstPart q S e) (otherPart q S e) e k (parts-of combine C q l laid S s filled e k low within site) may)
           (λ outside. le-refl _)

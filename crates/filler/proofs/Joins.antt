@@ -7,20 +7,22 @@ use lib.Bits.{bitAnd}
 use lib.ListN.{replicate}
 use borrow.Author.Tests.{eq-eqb, ne-eqb}
 use Rattle.relations.specs.declared.splitting.Parts.{Parts}
+use Rattle.relations.specs.Code.{mostSets}
 use Rattle.relations.specs.Sets.{bit, lowest}
 use Rattle.relations.specs.Splits.{partsBy}
 use Rattle.relations.proofs.Bits.{bit-range}
 use Rattle.relations.proofs.Counts.{lowest-off}
 use Rattle.relations.proofs.Walks.{From, from-first, none-from, lowest-left, lowest-past, lowest-whole, none-between, one-less, from-next}
 use Rattle.board.specs.Figures.{noneMark, leastOf, Marked}
-use Rattle.board.specs.Board.{sideAt, sitesAt}
+use Rattle.board.specs.Board.{sideAt, sparedRow, sitesAt}
 use Rattle.filler.specs.Cells.{reach}
-use Rattle.filler.specs.Trials.{Lent, trialOf, Triable, partsAt, AtSites, TriedAt, joinTrial, Joinable, joinedIn}
+use Rattle.filler.specs.Trials.{Lent, trialOf, Triable, partsAt, trialBy, TriableBy, AtSites, TriedAt, joinTrial, Joinable, joinedIn}
+use Rattle.filler.proofs.Places.{reach-least}
 use Rattle.filler.proofs.Turns.{none-marked, least-none, least-more, least-past}
 
 -- Its figure where a join is among the bits, and where it is not.
 module _ (combine : ℕ → ℕ → ℕ) (l : Lent) (joins S k e : ℕ) where
-  pub trial-in : bit joins e ≡ 1 → trialOf combine l (partsAt l S e .first) (partsAt l S e .second) k ≡ joinTrial combine l joins S k e
+  pub trial-in : bit joins e ≡ 1 → trialBy combine l (partsAt l S e) e k ≡ joinTrial combine l joins S k e
   unfolding joinTrial
   trial-in h = rw (eq-eqb (bit joins e) 1 h)
 
@@ -80,24 +82,35 @@ module _ (combine : ℕ → ℕ → ℕ) (l : Lent) (joins S : ℕ) where
       pub next-less : (rest : ℕ) → rest ≡ bitAnd left (left - 1) → rest < left
       next-less rest e = omega (arith, next-off rest e, one-less joins left (j .at) (j .from) some fits (2 ^ lowest 64 left) refl)
 
-      -- What trying its join asks, and the row with the trials of it.
-      pub next-asks : Joinable l joins S → (p : Parts) → p ≡ partsBy S (sideAt (l .board) (lowest 64 left)) → (k : ℕ) → k < reach (sitesAt (l .board)) →
-          Triable l (p .first) (p .second) k
-      next-asks a p is k low = subst (λ (x : Parts). Triable l (x .first) (x .second) k) (sym is) (a .each (lowest 64 left) k next-low low next-joins)
+      -- What trying its join asks, and the row with the trials of it, by its parts and the row of the board with what is spared of them.
+      next-triable : Joinable l joins S → (p : Parts) → p ≡ partsBy S (sideAt (l .board) (lowest 64 left)) → (k : ℕ) → k < reach (sitesAt (l .board)) →
+          TriableBy l p (lowest 64 left) k
+      next-triable a p is k low = subst (λ (x : Parts). TriableBy l x (lowest 64 left) k) (sym is) (a .each (lowest 64 left) k next-low low next-joins)
+
+      pub next-parts : Joinable l joins S → (p : Parts) → p ≡ partsBy S (sideAt (l .board) (lowest 64 left)) →
+          ((p .first < mostSets) × (p .second < mostSets)) × (lowest 64 left < 8)
+      next-parts a p is =
+          let within = next-triable a p is 0 (omega (arith, a .some-site, reach-least (sitesAt (l .board)) (a .few-sites))) .priced .set-in in
+          ((omega arith, omega arith), next-low)
+
+      pub next-asks : Joinable l joins S → (p : Parts) (i : ℕ) → p ≡ partsBy S (sideAt (l .board) (lowest 64 left)) → i ≡ sparedRow (p .first) (p .second) (lowest 64 left) →
+          (k : ℕ) → k < reach (sitesAt (l .board)) → Triable l (p .first) (p .second) i k
+      next-asks a p i is row k low = rw row (next-triable a p is k low)
 
       next-lanes : AtSites (sitesAt (l .board)) row (λ (k : ℕ). leastOf (joinTrial combine l joins S k) (lowest 64 left))
       next-lanes =
           least-past (joinTrial combine l joins S) (sitesAt (l .board)) (j .at) (lowest 64 left) row (j .lanes) next-past
           (λ k i low h. trial-out combine l joins S k i (none-between joins left (j .at) (j .from) some fits i low h))
 
-      pub joined-more : (p : Parts) (rest : ℕ) (new : List ℕ) → p ≡ partsBy S (sideAt (l .board) (lowest 64 left)) → rest ≡ bitAnd left (left - 1) →
-          TriedAt (sitesAt (l .board)) row new (trialOf combine l (p .first) (p .second)) × Marked new → JoinedTo combine l joins S new rest
-      joined-more p rest new is off (t, m) = record {
+      pub joined-more : (p : Parts) (i rest : ℕ) (new : List ℕ) → p ≡ partsBy S (sideAt (l .board) (lowest 64 left)) →
+          i ≡ sparedRow (p .first) (p .second) (lowest 64 left) → rest ≡ bitAnd left (left - 1) →
+          TriedAt (sitesAt (l .board)) row new (trialOf combine l (p .first) (p .second) i) × Marked new → JoinedTo combine l joins S new rest
+      joined-more p i rest new is spared off (t, m) = record {
         at = lowest 64 left + 1;
         at-most = omega (arith, next-low);
         from = subst (λ (x : ℕ). From joins x (lowest 64 left + 1)) (sym (next-off rest off)) (from-next joins left (j .at) (j .from) some fits (2 ^ lowest 64 left) refl);
         few = omega (arith, j .few, next-less rest off);
         lanes = least-more (joinTrial combine l joins S) (sitesAt (l .board)) _ (lowest 64 left) row new next-lanes t
-            (λ k h. ap (λ (x : Parts). trialOf combine l (x .first) (x .second) k) is ∙ trial-in combine l joins S k (lowest 64 left) next-joins);
+            (λ k h. ap (λ (x : ℕ). trialOf combine l (p .first) (p .second) x k) spared ∙ ap (λ (x : Parts). trialBy combine l x (lowest 64 left) k) is ∙ trial-in combine l joins S k (lowest 64 left) next-joins);
         marked = m;
       }

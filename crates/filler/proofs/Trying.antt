@@ -1,5 +1,5 @@
 -- What a price, a trial and a carriage come to, and that their sums keep far below a word's limit.
-use Prim.Native.Nat.{ℕ, _+_, _*_, _≤_, _<_, zero-le}
+use Prim.Native.Nat.{ℕ, _+_, _-_, _*_, _≤_, _<_, zero-le}
 use native.Mathlib.Nat.{le-refl}
 use native.Mathlib.Omega.{arith}
 use mathlib.Core.Path.{_≡_, sym, _∙_}
@@ -10,33 +10,30 @@ use lib.ListN.{getD}
 use borrow.Author.Tests.{eq-eqb, ne-eqb}
 use Rattle.relations.specs.Sets.{bit}
 use Rattle.query.specs.Choice.{pick}
-use Rattle.query.specs.Masks.{IsMask}
-use Rattle.query.specs.Prices.{lineCharge, reads}
+use Rattle.query.specs.Prices.{lineCharge}
 use Rattle.board.specs.Figures.{noneMark}
 use Rattle.filler.specs.Cells.{placeIn}
-use Rattle.board.specs.Board.{fixedAt, rateAt, countedAt, lineFixedAt, lineRateAt, sitesAt}
+use Rattle.board.specs.Board.{lane, fixedAt, rateAt, lineFixedAt, lineRateAt, sitesAt}
 use Rattle.filler.specs.Trials.{Lent, priceIn, Priced, trialOf, Triable, bareAt, carriageIn, Carriable}
 
--- The price of a join: its masks and sizes as they are read.
-module _ (b sizes : List ℕ) (P R k m n x y : ℕ) (p : Priced b sizes P R k) (em : m ≡ countedAt b P k) (en : n ≡ countedAt b R k) (ex : x ≡ getD sizes P 0)
-    (ey : y ≡ getD sizes R 0) where
-  pub reads-ask : (IsMask m × (x ≤ 1_000_000_000)) × (IsMask n × (y ≤ 1_000_000_000))
-  reads-ask = rw (em, en, ex, ey) ((p .first-mask, p .sizes-most P), (p .second-mask, p .sizes-most R))
+-- The price of a join: its sizes as they are looked up.
+module _ (b sizes : List ℕ) (P R i k x y : ℕ) (p : Priced b sizes P R i k) (ex : x ≡ getD sizes P 0) (ey : y ≡ getD sizes R 0) where
+  pub reads-ask : ((x ≤ 1_000_000_000) × (y ≤ 1_000_000_000)) × (lane b i k ≤ x + y)
+  reads-ask = rw (ex, ey) ((p .sizes-most P, p .sizes-most R), p .spared-most)
 
-  pub price-is : (r read z : ℕ) → read ≡ reads (eqb m 0) x (eqb n 0) y → z ≡ getD sizes (P + R) 0 → r ≡ fixedAt b k + rateAt b k * (read + z) →
-      r ≡ priceIn b sizes P R k
-  price-is r read z er ez e = e ∙ rw (er, ez, em, en, ex, ey)
+  pub price-is : (r read z : ℕ) → read ≡ x + y - lane b i k → z ≡ getD sizes (P + R) 0 → r ≡ fixedAt b k + rateAt b k * (read + z) → r ≡ priceIn b sizes P R i k
+  price-is r read z er ez e = e ∙ rw (er, ez, ex, ey)
 
-pub price-asks : (b sizes : List ℕ) (P R k read z : ℕ) → Priced b sizes P R k → read ≤ 2_000_000_000 → z ≡ getD sizes (P + R) 0 →
+pub price-asks : (b sizes : List ℕ) (P R i k read z : ℕ) → Priced b sizes P R i k → read ≤ 2_000_000_000 → z ≡ getD sizes (P + R) 0 →
     (fixedAt b k ≤ noneMark) × ((rateAt b k ≤ 1_000) × ((read ≤ 2_000_000_000) × (z ≤ 1_000_000_000)))
-price-asks b sizes P R k read z p h e = (p .fixed-most, (p .rate-most, (h, rw e (p .sizes-most (P + R)))))
+price-asks b sizes P R i k read z p h e = (p .fixed-most, (p .rate-most, (h, rw e (p .sizes-most (P + R)))))
 
 -- A trial: two cells and a price.
-module _ (l : Lent) (P R k a b : ℕ) (ea : a ≡ placeIn (l .places) P k) (eb : b ≡ placeIn (l .places) R k) where
-  pub both-most : Triable l P R k → getD (l .work) a 0 + getD (l .work) b 0 ≤ 2 * noneMark
+module _ (l : Lent) (P R i k a b : ℕ) (ea : a ≡ placeIn (l .places) P k) (eb : b ≡ placeIn (l .places) R k) where
+  pub both-most : Triable l P R i k → getD (l .work) a 0 + getD (l .work) b 0 ≤ 2 * noneMark
   both-most t = rw (ea, eb) (omega (arith, t .first-cell, t .second-cell))
 
-  pub trial-is : (both price : ℕ) → both ≡ getD (l .work) a 0 + getD (l .work) b 0 → price ≡ priceIn (l .board) (l .sizes) P R k → both + price ≡ trialOf _+_ l P R k
+  pub trial-is : (both price : ℕ) → both ≡ getD (l .work) a 0 + getD (l .work) b 0 → price ≡ priceIn (l .board) (l .sizes) P R i k → both + price ≡ trialOf _+_ l P R i k
   unfolding trialOf
   trial-is both price e f = rw (e, f, ea, eb)
 

@@ -1,5 +1,6 @@
 // Delivered: the least over the sites that a subquery can start from, with the line from there.
 use crate::placing::lanes;
+use board::BOARD;
 use board::LINE_FIXED;
 use board::LINE_RATE;
 use board::NONE;
@@ -19,7 +20,7 @@ ghost use Rattle.board.specs.Board.{sitesAt};
 ghost use Rattle.filler.specs.Trials.{TriedAt, carriageIn, Carriable, deliveredIn};
 
 // The carriage of a size from site k to site t.
-pub fn carriage(board: &[u64; 256], size: Bytes, k: usize, t: usize) -> Charge
+pub fn carriage(board: &[u64; BOARD], size: Bytes, k: usize, t: usize) -> Charge
     requires { ⌜ Carriable (now board) (size .0) × ((k < sitesAt (now board)) × (t < 8)) ⌝ }
     ensures { λ r. ⌜ (r .0 ≡ carriageIn (now (board .entry)) (size .0) k t) × (r .0 ≤ noneMark + dearestLine) ⌝ }
 {
@@ -28,7 +29,7 @@ pub fn carriage(board: &[u64; 256], size: Bytes, k: usize, t: usize) -> Charge
 }
 
 // The row with what comes by way of site k, where it has cost a figure so far, where that is less.
-fn send_from(best: &mut [u64; 8], board: &[u64; 256], figure: u64, size: Bytes, k: usize)
+fn send_from(best: &mut [u64; 8], board: &[u64; BOARD], figure: u64, size: Bytes, k: usize)
     requires { ⌜ Marked (now best) × ((figure ≤ noneMark) × (Carriable (now board) (size .0) × (k < sitesAt (now board)))) ⌝ }
     ensures { λ _. ⌜ TriedAt 8 (now (best .entry)) (now (best .exit)) (λ (t : ℕ). figure + carriageIn (now (board .entry)) (size .0) k t) × Marked (now (best .exit)) ⌝ }
 {
@@ -41,7 +42,7 @@ fn send_from(best: &mut [u64; 8], board: &[u64; 256], figure: u64, size: Bytes, 
 }
 
 // Delivered at each site from what a subquery has cost at each site where it can start from.
-fn delivered_row(board: &[u64; 256], row: &[u64; 8], size: Bytes) -> [u64; 8]
+fn delivered_row(board: &[u64; BOARD], row: &[u64; 8], size: Bytes) -> [u64; 8]
     requires { ⌜ Marked (now row) × Carriable (now board) (size .0) ⌝ }
     ensures { λ r. ⌜ Lanes r (deliveredIn (λ (k : ℕ). getD (now (row .entry)) k 0) (now (board .entry)) (size .0)) ⌝ }
 {
@@ -69,7 +70,13 @@ fn store(work: &mut [u64], row: &[u64; 8], at: usize, lanes: usize)
 }
 
 // The cells of a subquery from what it has cost at each site where it can start from.
-pub(crate) fn deliver(work: &mut [u64], board: &[u64; 256], row: &[u64; 8], size: Bytes, at: usize)
+pub(crate) fn deliver(
+    work: &mut [u64],
+    board: &[u64; BOARD],
+    row: &[u64; 8],
+    size: Bytes,
+    at: usize,
+)
     requires { ⌜ (Marked (now row) × Carriable (now board) (size .0)) × ((at ≤ mostCells) × (at + reach (sitesAt (now board)) ≤ length (now work))) ⌝ }
     ensures { λ _.
         ⌜ Stored (now (work .entry)) (now (work .exit)) at (deliveredIn (λ (k : ℕ). getD (now (row .entry)) k 0) (now (board .entry)) (size .0))

@@ -1,8 +1,11 @@
 // The trials of a set at up to four sites: one pair of lanes, or two.
 use crate::trials::try_pair;
+use board::BOARD;
 use board::NONE;
 use board::side_at;
 use board::sites_of;
+use board::spared_row;
+use relations::Parts;
 use relations::SETS;
 use relations::split;
 ghost use Prim.Native.Nat.{ℕ, _+_, _≤_, _<_};
@@ -14,29 +17,29 @@ ghost use Rattle.filler.specs.Trials.{lent, AtSites, Triable, trialOf, T
 // The row with the trials of one split where they are less.
 fn try_few<'a>(
     row: &mut [u64; 8],
-    board: &'a [u64; 256],
+    board: &'a [u64; BOARD],
     sizes: &'a [u32; SETS],
     places: &'a [u32; SETS],
     work: &[u64],
-    part: usize,
-    rest: usize,
+    parts: Parts,
+    spared: usize,
 )
-    requires { ⌜ Marked (now row) × ((k : ℕ) → k < reach (sitesAt (now board)) → Triable (lent (now board) (now sizes) (now places) (now work)) part rest k) ⌝ }
+    requires { ⌜ Marked (now row) × ((k : ℕ) → k < reach (sitesAt (now board)) → Triable (lent (now board) (now sizes) (now places) (now work)) (parts .first) (parts .second) spared k) ⌝ }
     requires { ⌜ (1 ≤ sitesAt (now board)) × (sitesAt (now board) ≤ 4) ⌝ }
     ensures { λ _.
-        ⌜ TriedAt (sitesAt (now (board .entry))) (now (row .entry)) (now (row .exit)) (trialOf _+_ (lent (now (board .entry)) (now (sizes .entry)) (now (places .entry)) (now (work .entry))) part rest)
+        ⌜ TriedAt (sitesAt (now (board .entry))) (now (row .entry)) (now (row .exit)) (trialOf _+_ (lent (now (board .entry)) (now (sizes .entry)) (now (places .entry)) (now (work .entry))) (parts .first) (parts .second) spared)
         × Marked (now (row .exit)) ⌝ }
 {
-    try_pair(&mut *row, board, sizes, places, work, part, rest, 0);
+    try_pair(&mut *row, board, sizes, places, work, parts, spared, 0);
     if sites_of(board) <= 2 {
         return;
     }
-    try_pair(&mut *row, board, sizes, places, work, part, rest, 2);
+    try_pair(&mut *row, board, sizes, places, work, parts, spared, 2);
 }
 
 // The row of a set over its joins, which are given as bits: the least trial at each site.
 pub(crate) fn joined_few<'a>(
-    board: &'a [u64; 256],
+    board: &'a [u64; BOARD],
     sizes: &'a [u32; SETS],
     places: &'a [u32; SETS],
     work: &[u64],
@@ -58,8 +61,8 @@ pub(crate) fn joined_few<'a>(
             sizes,
             places,
             work,
-            parts.first,
-            parts.second,
+            parts,
+            spared_row(parts, e),
         );
         left = left & (left - 1);
     }

@@ -2,6 +2,7 @@
 use crate::delivering::deliver;
 use crate::rows::start_row;
 use crate::trials::size_of;
+use board::BOARD;
 use board::joins_of;
 use board::sites_of;
 use relations::SETS;
@@ -19,7 +20,7 @@ ghost use Rattle.filler.specs.Filling.{Fillable, FilledFrom};
 
 // Fills the cells of one subquery from a place on, its joins given as bits: none for one relation.
 fn fill_set<'a>(
-    board: &'a [u64; 256],
+    board: &'a [u64; BOARD],
     sizes: &'a [u32; SETS],
     places: &'a [u32; SETS],
     work: &mut [u64],
@@ -41,7 +42,7 @@ fn fill_set<'a>(
 
 // Fills the cells of every subquery but the whole query, notes where the first of each stands, and counts the joins in all of them.
 pub fn fill<'a>(
-    board: &'a [u64; 256],
+    board: &'a [u64; BOARD],
     sizes: &'a [u32; SETS],
     table: &'a [u32; SETS],
     places: &mut [u32; SETS],

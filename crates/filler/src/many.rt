@@ -1,7 +1,10 @@
 // The trials of a set at five sites or more: all eight lanes. What is read beyond the sites is the next row.
 use crate::trials::try_pair;
+use board::BOARD;
 use board::NONE;
 use board::side_at;
+use board::spared_row;
+use relations::Parts;
 use relations::SETS;
 use relations::split;
 ghost use Prim.Native.Nat.{ℕ, _+_, _≤_, _<_};
@@ -13,28 +16,28 @@ ghost use Rattle.filler.specs.Trials.{lent, AtSites, Triable, trialOf, T
 // The row with the trials of one split where they are less.
 fn try_many<'a>(
     row: &mut [u64; 8],
-    board: &'a [u64; 256],
+    board: &'a [u64; BOARD],
     sizes: &'a [u32; SETS],
     places: &'a [u32; SETS],
     work: &[u64],
-    part: usize,
-    rest: usize,
+    parts: Parts,
+    spared: usize,
 )
-    requires { ⌜ Marked (now row) × ((k : ℕ) → k < reach (sitesAt (now board)) → Triable (lent (now board) (now sizes) (now places) (now work)) part rest k) ⌝ }
+    requires { ⌜ Marked (now row) × ((k : ℕ) → k < reach (sitesAt (now board)) → Triable (lent (now board) (now sizes) (now places) (now work)) (parts .first) (parts .second) spared k) ⌝ }
     requires { ⌜ (4 < sitesAt (now board)) × (sitesAt (now board) ≤ 8) ⌝ }
     ensures { λ _.
-        ⌜ TriedAt (sitesAt (now (board .entry))) (now (row .entry)) (now (row .exit)) (trialOf _+_ (lent (now (board .entry)) (now (sizes .entry)) (now (places .entry)) (now (work .entry))) part rest)
+        ⌜ TriedAt (sitesAt (now (board .entry))) (now (row .entry)) (now (row .exit)) (trialOf _+_ (lent (now (board .entry)) (now (sizes .entry)) (now (places .entry)) (now (work .entry))) (parts .first) (parts .second) spared)
         × Marked (now (row .exit)) ⌝ }
 {
-    try_pair(&mut *row, board, sizes, places, work, part, rest, 0);
-    try_pair(&mut *row, board, sizes, places, work, part, rest, 2);
-    try_pair(&mut *row, board, sizes, places, work, part, rest, 4);
-    try_pair(&mut *row, board, sizes, places, work, part, rest, 6);
+    try_pair(&mut *row, board, sizes, places, work, parts, spared, 0);
+    try_pair(&mut *row, board, sizes, places, work, parts, spared, 2);
+    try_pair(&mut *row, board, sizes, places, work, parts, spared, 4);
+    try_pair(&mut *row, board, sizes, places, work, parts, spared, 6);
 }
 
 // The row of a set over its joins, which are given as bits: the least trial at each site.
 pub(crate) fn joined_many<'a>(
-    board: &'a [u64; 256],
+    board: &'a [u64; BOARD],
     sizes: &'a [u32; SETS],
     places: &'a [u32; SETS],
     work: &[u64],
@@ -56,8 +59,8 @@ pub(crate) fn joined_many<'a>(
             sizes,
             places,
             work,
-            parts.first,
-            parts.second,
+            parts,
+            spared_row(parts, e),
         );
         left = left & (left - 1);
     }

@@ -1,6 +1,7 @@
 // What a subquery has cost at each site where it can start from: where its one relation stands, else where it is joined.
 use crate::few::joined_few;
 use crate::many::joined_many;
+use board::BOARD;
 use board::NONE;
 use board::homes_at;
 use board::sites_of;
@@ -36,7 +37,7 @@ fn bare_row(homes: usize) -> [u64; 8]
 // The row of a set over its joins, which are given as bits: the least trial at each site. The number of sites is asked for here and not at each join,
 // so that the row stays in registers.
 pub fn joined_row<'a>(
-    board: &'a [u64; 256],
+    board: &'a [u64; BOARD],
     sizes: &'a [u32; SETS],
     places: &'a [u32; SETS],
     work: &[u64],
@@ -54,7 +55,7 @@ pub fn joined_row<'a>(
 
 // What a subquery has cost at each site where it can start from, its joins given as bits: none for one relation.
 pub fn start_row<'a>(
-    board: &'a [u64; 256],
+    board: &'a [u64; BOARD],
     sizes: &'a [u32; SETS],
     places: &'a [u32; SETS],
     work: &[u64],

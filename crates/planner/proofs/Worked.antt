@@ -10,7 +10,6 @@ use Rattle.files.specs.Ordinary.{bytesOf, amounts, sizesBytes, ordinary}
 use Rattle.sizing.specs.Worked.{lowestWhere, links, joinTo, mayJoinIn, next, takenAfter, joinedSize, sizeAfter, workedSize, sizesBelow, workedSizes}
 use Rattle.query.specs.Query.{home, index, mayJoin, joinFixed, joinRate, isOpen, lineFixed, lineRate, size}
 use Rattle.query.specs.Prices.{parcels, linePrice, carriage, reads, joinPrice, indexed}
-use Rattle.query.specs.Prices as prices
 use Rattle.rules.specs.Machine as machine
 use Rattle.rules.specs.Allowed as plans
 use Rattle.tables.specs.Least.{best}
@@ -24,7 +23,7 @@ use Rattle.planner.specs.Check.{check}
 use Rattle.planner.specs.Worked.{Worked}
 
 pub worked : Worked
-unfolding ones onesIn trailingZeros bit put inside leads step grow isSubquery countBelow reaches part number field items storing section terms two sitesSection relationsSection joinsSection sized sizesSection line sender linesSection deliverySection countsSection rowsSections decode bytesOf amounts sizesBytes ordinary lowestWhere links joinTo mayJoinIn next takenAfter joinedSize sizeAfter workedSize sizesBelow workedSizes home index mayJoin joinFixed joinRate isOpen lineFixed lineRate size parcels linePrice carriage prices.read reads joinPrice indexed machine.load machine.sendTop machine.send machine.links machine.spared machine.joinTop machine.join machine.step plans.finish plans.run plans.checked best byJoin joinedBy deliveredBy deliveredUpTo delivered joined joinsBelow bestSite bestJoin joinedSteps deliveredSteps stepsUpTo writtenDelivered cellsNeeded loadBy sitesListed termsInRange link solve check
+unfolding ones onesIn trailingZeros bit put inside leads step grow isSubquery countBelow reaches part number field items storing section terms two sitesSection relationsSection joinsSection sized sizesSection line sender linesSection deliverySection countsSection rowsSections decode bytesOf amounts sizesBytes ordinary lowestWhere links joinTo mayJoinIn next takenAfter joinedSize sizeAfter workedSize sizesBelow workedSizes home index mayJoin joinFixed joinRate isOpen lineFixed lineRate size parcels linePrice carriage reads joinPrice indexed machine.load machine.sendTop machine.send machine.links machine.qualifies machine.joinTop machine.join machine.step plans.finish plans.run plans.checked best byJoin joinedBy deliveredBy deliveredUpTo delivered joined joinsBelow bestSite bestJoin joinedSteps deliveredSteps stepsUpTo writtenDelivered cellsNeeded loadBy sitesListed termsInRange link solve check
 worked = record {
   q-length = refl;
   q-decoded = refl;

@@ -1,23 +1,23 @@
 -- The prices' limits and laws. Each price is one fixed amount and one rate times a count of parcels or bytes, and a valid query limits both.
-use Prim.Native.Nat.{ℕ, _+_, _-_, _*_, _%_, _^_, _≤_, zero-le}
-use native.Mathlib.Nat.{mul-le-mul, mul-le-mul-left, mul-le-mul-right, add-comm, le-refl}
+use Prim.Native.Nat.{ℕ, _+_, _-_, _*_, _%_, _≤_, zero-le}
+use native.Mathlib.Nat.{mul-le-mul, mul-le-mul-left, mul-le-mul-right, add-comm, le-refl, le-trans, le-antisymm}
 use native.Mathlib.Omega.{arith}
-use mathlib.Core.Path.{_≡_, refl, _∙_}
+use mathlib.Core.Path.{_≡_, refl}
 use mathlib.Core.Bool.{Bool, true, false}
 use mathlib.Core.Logic.{_⊎_, inl, inr}
-use lib.Bits.{bitAnd, and-zero-r, and-le-l, and-mask}
-use lib.Dec.{eqb}
+use lib.Dec.{eqb, leb}
 use mir.Syntax.{w64}
 use mir.Val.{Fits}
-use borrow.Author.Tests.{eq-eqb, ne-eqb, eqb-true, eqb-false}
+use borrow.Author.Tests.{eq-eqb, ne-eqb, eqb-true, eqb-false, leb-true, leb-false}
 use Rattle.relations.proofs.Leads.{clash}
 use Rattle.query.specs.declared.Query.{Query}
 use Rattle.query.specs.Choice.{pick}
 use Rattle.query.specs.Cost.{none, some}
 use Rattle.query.specs.Query.{Valid, joinFixed, joinRate, isOpen, lineFixed, lineRate, size}
-use Rattle.query.specs.Prices.{parcels, linePrice, carriage, read, reads, joinPrice, mostParcels, dearestLine, dearestCarriage}
-use Rattle.query.specs.Masks.{countedMask, IsMask}
-use Rattle.query.specs.Theorems.{ParcelsLaw, LineMost, JoinMost, ReadsEither}
+use Rattle.query.specs.Prices.{parcels, linePrice, carriage, reads, joinPrice, mostParcels, dearestLine, dearestCarriage}
+use Rattle.query.specs.Spared.{spareable, spared}
+use Rattle.query.specs.Theorems.{ParcelsLaw, LineMost, JoinMost, ReadsSpared, ReadsEither}
+use Rattle.query.proofs.Choice.{pick-all}
 
 -- A fixed amount and a rate times a count, each up to its limit.
 pub priced-most : (f r x F R X : ℕ) → f ≤ F → r ≤ R → x ≤ X → f + r * x ≤ F + R * X
@@ -41,23 +41,6 @@ short-is r x a b =
 pub carried-is : (r x p g : ℕ) → p ≡ parcels x → p ≤ mostParcels → g ≡ r * p → g ≤ 1_000 * p → (g ≡ r * parcels x) × (g ≤ dearestLine)
 carried-is r x p g started few charged most = (rw (charged, started), omega arith)
 
--- A mask takes all of a size of at most 32 bits, or nothing.
-pub masked : (m x : ℕ) → IsMask m → x ≤ 1000000000 → (bitAnd x m ≡ read (eqb m 0) x) × (bitAnd x m ≤ x)
-unfolding read
-masked m x (inl e) h = rw e (and-zero-r x, and-le-l x 0)
-masked m x (inr e) h =
-    let f : bitAnd x (2 ^ 32 - 1) ≡ x = and-mask x 32 ∙ (omega arith) in
-    rw e (f, and-le-l x (2 ^ 32 - 1))
-
--- The mask of a read, and what it says.
-pub mask-is : (b : Bool) (m : ℕ) → m ≡ countedMask b → IsMask m
-mask-is true m e = inl e
-mask-is false m e = inr e
-
-pub mask-spares : (b : Bool) (m : ℕ) → m ≡ countedMask b → eqb m 0 ≡ b
-mask-spares true m e = rw e
-mask-spares false m e = rw e
-
 pub parcels-law : ParcelsLaw
 unfolding parcels
 parcels-law size = record { enough = omega arith; least = λ p h. omega arith }
@@ -68,14 +51,40 @@ line-most q v P a b =
     priced-most _ _ _ 1_000_000 1_000 mostParcels (v .line-fixed-most _) (v .line-rate-most _)
     (parcels-law _ .least mostParcels (omega (arith, v .sizes-most P)))
 
-pub read-most : (spared : Bool) (x : ℕ) → read spared x ≤ x
-unfolding read
-read-most true x = zero-le
-read-most false x = le-refl x
+-- No more than the read can be spared.
+pub spareable-most : (qualifies : Bool) (x : ℕ) → spareable qualifies x ≤ x
+spareable-most true x = le-refl x
+spareable-most false x = zero-le
 
-pub reads-most : (a : Bool) (x : ℕ) (b : Bool) (y : ℕ) → reads a x b y ≤ x + y
+-- What is spared is the larger of what can be: at least each, and one of them.
+spared-least : (v w : ℕ) → (v ≤ spared v w) × (w ≤ spared v w)
+spared-least v w = go (leb v w) refl
+  where
+    go : (t : Bool) → leb v w ≡ t → (v ≤ pick t w v) × (w ≤ pick t w v)
+    go true e = (leb-true v w e, le-refl w)
+    go false e = (le-refl v, omega (arith, leb-false v w e))
+
+pub spared-most : (v w m : ℕ) → v ≤ m → w ≤ m → spared v w ≤ m
+spared-most v w m h g = pick-all (λ (x : ℕ). x ≤ m) (leb v w) w v (λ _. g) (λ _. h)
+
+-- Beside nothing all that can be spared is.
+pub spared-alone : (v : ℕ) → (spared v 0 ≡ v) × (spared 0 v ≡ v)
+spared-alone v =
+    (le-antisymm (spared-most v 0 v (le-refl v) zero-le) (spared-least v 0 .0), le-antisymm (spared-most 0 v v zero-le (le-refl v)) (spared-least 0 v .1))
+
+pub reads-spared : ReadsSpared
 unfolding reads
-reads-most a x b y = omega (arith, read-most a x, read-most b y)
+reads-spared true x true y = go (leb x y) refl
+  where
+    go : (t : Bool) → leb x y ≡ t → pick t x y ≡ x + y - pick t y x
+    go true e = omega arith
+    go false e = omega arith
+reads-spared true x false y = omega (arith, spared-alone x .0)
+reads-spared false x true y = omega (arith, spared-alone y .1)
+reads-spared false x false y = omega arith
+
+reads-most : (a : Bool) (x : ℕ) (b : Bool) (y : ℕ) → reads a x b y ≤ x + y
+reads-most a x b y = rw (reads-spared a x b y) (omega arith)
 
 pub join-most : JoinMost
 unfolding joinPrice joinFixed joinRate size
@@ -83,29 +92,35 @@ join-most q v k a P b R =
     priced-most _ _ _ 1_000_000 1_000 3_000_000_000 (v .join-fixed-most k) (v .join-rate-most k)
     (omega (arith, reads-most a (size q P) b (size q R), v .sizes-most P, v .sizes-most R, v .sizes-most (P + R)))
 
+-- What is spared is the same for the operands in either order.
+spared-either : (v w : ℕ) → spared v w ≡ spared w v
+spared-either v w = le-antisymm (spared-most v w _ (spared-least w v .1) (spared-least w v .0)) (spared-most w v _ (spared-least v w .1) (spared-least v w .0))
+
 pub reads-either : ReadsEither
-unfolding reads
-reads-either a x b y = add-comm (read a x) (read b y)
+reads-either a x b y =
+    rw (reads-spared a x b y, reads-spared b y a x, spared-either (spareable a x) (spareable b y)) (omega arith)
 
 -- The order of the operands does not matter to a join's price.
 pub join-either : (q : Query) (k : ℕ) (a : Bool) (P : ℕ) (b : Bool) (R : ℕ) → joinPrice q k a P b R ≡ joinPrice q k b R a P
 unfolding joinPrice
 join-either q k a P b R = rw (reads-either a (size q P) b (size q R), add-comm P R)
 
--- Sparing a read never makes it more.
-pub spared-less : (a a′ : Bool) (x : ℕ) → (a ≡ true → a′ ≡ true) → read a′ x ≤ read a x
-unfolding read
-spared-less true a′ x h = rw (h refl) (le-refl 0)
-spared-less false a′ x h = read-most a′ x
+-- More is never spared of an operand that does not qualify than of one that does.
+qualified-more : (a a′ : Bool) (x : ℕ) → (a ≡ true → a′ ≡ true) → spareable a x ≤ spareable a′ x
+qualified-more true a′ x h = rw (h refl) (le-refl x)
+qualified-more false a′ x h = zero-le
 
--- Sparing a read never makes a join dearer.
-pub spared-cheaper : (q : Query) (k : ℕ) (a a′ : Bool) (P : ℕ) (b b′ : Bool) (R : ℕ) → (a ≡ true → a′ ≡ true) → (b ≡ true → b′ ≡ true) →
+-- A join whose operands qualify, too, where those of another do is never dearer.
+pub qualified-cheaper : (q : Query) (k : ℕ) (a a′ : Bool) (P : ℕ) (b b′ : Bool) (R : ℕ) → (a ≡ true → a′ ≡ true) → (b ≡ true → b′ ≡ true) →
     joinPrice q k a′ P b′ R ≤ joinPrice q k a P b R
-unfolding joinPrice reads
-spared-cheaper q k a a′ P b b′ R h g =
-    let x : ℕ = read a′ (size q P) + read b′ (size q R) + size q (P + R) in
-    let y : ℕ = read a (size q P) + read b (size q R) + size q (P + R) in
-    let less : x ≤ y = omega (arith, spared-less a a′ (size q P) h, spared-less b b′ (size q R) g) in
+unfolding joinPrice
+qualified-cheaper q k a a′ P b b′ R h g =
+    let x : ℕ = size q P in
+    let y : ℕ = size q R in
+    let v : spareable a x ≤ spared (spareable a′ x) (spareable b′ y) = le-trans (qualified-more a a′ x h) (spared-least (spareable a′ x) (spareable b′ y) .0) in
+    let w : spareable b y ≤ spared (spareable a′ x) (spareable b′ y) = le-trans (qualified-more b b′ y g) (spared-least (spareable a′ x) (spareable b′ y) .1) in
+    let less : reads a′ x b′ y + size q (P + R) ≤ reads a x b y + size q (P + R) =
+    rw (reads-spared a′ x b′ y, reads-spared a x b y) (omega (arith, spared-most (spareable a x) (spareable b y) _ v w)) in
     omega (arith, mul-le-mul-left (joinRate q k) less)
 
 -- What stays where it is costs nothing.

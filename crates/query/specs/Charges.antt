@@ -1,6 +1,6 @@
 -- Sizes at and beside full parcels, and at the limit, each with its parcels, with what a line of fixed amount 3 and rate 5 charges for it (rule 3.2),
 -- and with what a site of fixed amount 2 and rate 1 charges for joining two operands of that size, both read, to a result of that size (rule 3.3).
--- `charges-hold` in proofs/ is their one theorem.
+-- And operands that qualify (rule 3.4). `charges-hold` and `qualified-hold` in proofs/ are their theorems.
 use Prim.Native.Nat.{ℕ}
 use mathlib.Core.Bool.{Bool, true, false, _&&_}
 use mathlib.Core.List.{List, [], _∷_}
@@ -35,3 +35,32 @@ holds c =
 abbrev pub everyHolds : List Charged → Bool
 everyHolds [] = true
 everyHolds (c ∷ cs) = holds c && everyHolds cs
+
+-- Two operands, each with whether it qualifies and its size, and what a site of fixed amount 2 and rate 1 charges for joining them to a result of 3.
+pub record Qualified : Type 0 where
+  pub one : Bool
+  pub first : ℕ
+  pub other : Bool
+  pub second : ℕ
+  pub joined : ℕ
+
+abbrev pub qualified : List Qualified
+qualified =
+    record { one = true; first = 10; other = true; second = 4; joined = 9 }
+    ∷ record { one = true; first = 4; other = true; second = 10; joined = 9 }
+    ∷ record { one = true; first = 5; other = true; second = 5; joined = 10 }
+    ∷ record { one = true; first = 0; other = true; second = 0; joined = 5 }
+    ∷ record { one = true; first = 0; other = true; second = 10; joined = 5 }
+    ∷ record { one = true; first = 10; other = true; second = 0; joined = 5 }
+    ∷ record { one = true; first = 1_000_000_000; other = true; second = 999_999_999; joined = 1_000_000_004 }
+    ∷ record { one = true; first = 10; other = false; second = 4; joined = 9 }
+    ∷ record { one = false; first = 10; other = true; second = 4; joined = 15 }
+    ∷ record { one = false; first = 10; other = false; second = 4; joined = 19 }
+    ∷ []
+
+abbrev pub qualifiedHolds : Qualified → Bool
+qualifiedHolds c = eqb (joinCharge 2 1 (reads (c .one) (c .first) (c .other) (c .second)) 3) (c .joined)
+
+abbrev pub everyQualified : List Qualified → Bool
+everyQualified [] = true
+everyQualified (c ∷ cs) = qualifiedHolds c && everyQualified cs

@@ -6,5 +6,5 @@ pub mod Query
 pub mod Prices
 pub mod Charges
 pub mod Indexed
-pub mod Masks
+pub mod Spared
 pub mod Theorems

@@ -1,8 +1,8 @@
 -- Prices: rules 3.2 to 3.5.
 use Prim.Native.Nat.{ℕ, _+_, _*_, _/_}
-use mathlib.Core.Bool.{Bool, _&&_}
+use mathlib.Core.Bool.{Bool, true, false, _&&_}
 use lib.Count.{ones}
-use lib.Dec.{eqb}
+use lib.Dec.{eqb, leb}
 use Rattle.relations.specs.Sets.{lowest}
 use Rattle.query.specs.declared.Query.{Query}
 use Rattle.query.specs.Choice.{pick}
@@ -25,19 +25,23 @@ linePrice q P a b = lineCharge (lineFixed q a b) (lineRate q a b) (size q P)
 unfoldable pub carriage : Query → ℕ → ℕ → ℕ → Cost
 carriage q P k t = pick (eqb k t) (some 0) (pick (isOpen q k t) (some (linePrice q P k t)) none)
 
--- The read of an operand: its size, spared where it is read by its index.
-unfoldable pub read : Bool → ℕ → ℕ
-read spared x = pick spared 0 x
+-- The smaller of two sizes.
+abbrev pub smaller : ℕ → ℕ → ℕ
+smaller x y = pick (leb x y) x y
 
--- The reads of a join's two operands, each with whether it is spared and its size.
+-- The reads of a join's two operands, each with whether it qualifies and its size. A join follows one index: where both qualify, the read of the larger
+-- is spared and the smaller is counted; where one does, its read is spared; else both are counted.
 unfoldable pub reads : Bool → ℕ → Bool → ℕ → ℕ
-reads a x b y = read a x + read b y
+reads true x true y = smaller x y
+reads true x false y = y
+reads false x true y = x
+reads false x false y = x + y
 
 -- What a join charges for what it reads and for its result: join fixed + join rate × (reads + size of both together).
 abbrev pub joinCharge : (fixed rate reads result : ℕ) → ℕ
 joinCharge fixed rate reads result = fixed + rate * (reads + result)
 
--- The price of joining P and R at site k, a and b telling whether their reads are spared.
+-- The price of joining P and R at site k, a and b telling whether they qualify.
 unfoldable pub joinPrice : Query → ℕ → Bool → ℕ → Bool → ℕ → ℕ
 joinPrice q k a P b R = joinCharge (joinFixed q k) (joinRate q k) (reads a (size q P) b (size q R)) (size q (P + R))
 
@@ -55,6 +59,6 @@ dearestCarriage = dearestLine
 abbrev pub dearestJoin : ℕ
 dearestJoin = 3_000_001_000_000
 
--- Whether what is delivered of S at site k is read by its index: it is one relation, k is its home (so it was never sent), and its index flag is set.
+-- Whether what is delivered of S at site k qualifies: it is one relation, k is its home (so it was never sent), and its index flag is set.
 unfoldable pub indexed : Query → ℕ → ℕ → Bool
 indexed q S k = eqb (ones S) 1 && (eqb (home q (lowest (relationsOf q) S)) k && index q (lowest (relationsOf q) S))

@@ -4,16 +4,12 @@ use crate::Charge;
 use crate::Parcels;
 use relations::wide;
 ghost use mathlib.Core.Path.{_≡_};
-ghost use Prim.Native.Nat.{_+_, _*_, _^_, _≤_, _<_};
-ghost use lib.Dec.{eqb};
+ghost use Prim.Native.Nat.{_+_, _-_, _*_, _^_, _≤_, _<_};
 ghost use lib.ListN.{length};
 ghost use Rattle.relations.specs.Code.{mostSets};
-ghost use Rattle.query.specs.Prices.{parcels, lineCharge, read, reads, joinCharge, mostParcels, dearestLine};
+ghost use Rattle.query.specs.Prices.{parcels, lineCharge, joinCharge, mostParcels, dearestLine};
 ghost use Rattle.query.specs.Indexed.{indexedIn};
-ghost use Rattle.query.specs.Masks.{countedMask, IsMask};
-
-// The mask of a read that counts; that of a spared read is 0.
-const COUNTS: u64 = 4294967295;
+ghost use Rattle.query.specs.Spared.{spareable, spared};
 
 // A rate times a count of parcels or bytes: all that a line or a join charges beyond its fixed amount. Both have at most 32 bits: a short product.
 fn rated(rate: u64, count: u64) -> Charge
@@ -51,29 +47,26 @@ pub fn line_price(fixed: Charge, rate: u64, size: Bytes) -> Charge
     Charge(fixed.0 + sent.0)
 }
 
-// The mask of an operand's read.
-pub fn mask(spared: bool) -> u64
-    ensures { λ r. ⌜ r ≡ countedMask spared ⌝ }
+// What the index of an operand can spare: its read, where it qualifies.
+pub fn spareable(qualifies: bool, size: Bytes) -> Bytes
+    ensures { λ r. ⌜ (r .0 ≡ spareable qualifies (size .0)) × (r .0 ≤ size .0) ⌝ }
 {
-    if spared { 0 } else { COUNTS }
+    if qualifies { size } else { Bytes(0) }
 }
 
-// The read of an operand: its size, spared where its mask is 0.
-fn read(counted: u64, size: Bytes) -> Bytes
-    requires { ⌜ IsMask counted × (size .0 ≤ 1000000000) ⌝ }
-    ensures { λ r. ⌜ (r .0 ≡ read (eqb counted 0) (size .0)) × (r .0 ≤ size .0) ⌝ }
+// What a join spares, by what it can spare of each operand: it follows one index, that of the larger.
+pub fn spared(one: Bytes, other: Bytes) -> Bytes
+    ensures { λ r. ⌜ r .0 ≡ spared (one .0) (other .0) ⌝ }
 {
-    Bytes(size.0 & counted)
+    if one.0 <= other.0 { other } else { one }
 }
 
-// The reads of a join's two operands, each with its mask.
-pub fn reads(a: u64, x: Bytes, b: u64, y: Bytes) -> Bytes
-    requires { ⌜ (IsMask a × (x .0 ≤ 1000000000)) × (IsMask b × (y .0 ≤ 1000000000)) ⌝ }
-    ensures { λ r. ⌜ (r .0 ≡ reads (eqb a 0) (x .0) (eqb b 0) (y .0)) × (r .0 ≤ 2000000000) ⌝ }
+// The reads of a join: both operands' sizes, less what is spared.
+pub fn reads(one: Bytes, other: Bytes, spared: Bytes) -> Bytes
+    requires { ⌜ ((one .0 ≤ 1000000000) × (other .0 ≤ 1000000000)) × (spared .0 ≤ one .0 + other .0) ⌝ }
+    ensures { λ r. ⌜ (r .0 ≡ one .0 + other .0 - spared .0) × (r .0 ≤ 2000000000) ⌝ }
 {
-    let one = read(a, x);
-    let other = read(b, y);
-    Bytes(one.0 + other.0)
+    Bytes(one.0 + other.0 - spared.0)
 }
 
 // The price of a join: join fixed + join rate × (reads + size of the result).
@@ -86,7 +79,7 @@ pub fn join_price(fixed: Charge, rate: u64, reads: Bytes, result: Bytes) -> Char
     Charge(fixed.0 + done.0)
 }
 
-// Whether a set at a site is read by its index: it is one relation, the site is its home, and its index flag is set.
+// Whether a set at a site qualifies: it is one relation, the site is its home, and its index flag is set.
 pub fn is_indexed<'a>(home: &'a [u8], index: &'a [u8], set: usize, site: usize) -> bool
     requires { ⌜ (set < mostSets) × ((9 ≤ length (now home)) × (9 ≤ length (now index))) ⌝ }
     ensures { λ r. ⌜ r ≡ indexedIn 9 (now (home .entry)) (now (index .entry)) set site ⌝ }

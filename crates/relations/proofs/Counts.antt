@@ -106,6 +106,11 @@ pub single-of-ones : (n S : ℕ) → S < 2 ^ n → ones S ≡ 1 → S ≡ 2 ^ lo
 single-of-ones n S h e =
     sym (sub-full (2 ^ lowest n S) S (sub-single S (lowest n S) (lowest-in n S (one-some S e) h)) (omega (arith, e, ones-pow (lowest n S))))
 
+-- A member of a set of one is its lowest.
+pub lowest-alone : (n S r : ℕ) → S < 2 ^ n → ones S ≡ 1 → bit S r ≡ 1 → lowest n S ≡ r
+lowest-alone n S r h e one =
+    elim (pow-cases (lowest n S) r) [ inl (same, here) ↦ same | inr none ↦ omega (arith, none, ap (λ (x : ℕ). bit x r) (single-of-ones n S h e)) ]
+
 pub lowest-within : (n S : ℕ) → 0 < S → S < 2 ^ n → 2 ^ lowest n S ≤ S
 lowest-within n S p h = le-of-sub (2 ^ lowest n S) S (sub-single S (lowest n S) (lowest-in n S p h))
 

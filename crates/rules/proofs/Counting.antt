@@ -15,7 +15,7 @@ use Rattle.query.specs.Query.{Valid, relationsOf}
 use Rattle.query.proofs.Prices.{line-most, join-most}
 use Rattle.rules.specs.declared.Held.{Held}
 use Rattle.rules.specs.Combine.{Combines}
-use Rattle.rules.specs.Machine.{bareOf, sentTo, joinOf, Machine, start, spared}
+use Rattle.rules.specs.Machine.{bareOf, sentTo, joinOf, Machine, start, qualifies}
 use Rattle.rules.specs.Code.{Room}
 use Rattle.rules.proofs.Steps.{MayLoad, MaySend, MayJoin, Cases, step-case}
 use Rattle.rules.proofs.Invariants.{Holds, Invariant}
@@ -82,7 +82,7 @@ module _ (combine : ℕ → ℕ → ℕ) (laws : Combines combine) (q : Query) (
             sends = room .sends;
             held = omega arith;
             steps = omega arith;
-            small = omega (arith, laws .most (a .figure .0) (b .figure .0), join-most q v (b .site) (spared q a) (a .set) (spared q b) (b .set));
+            small = omega (arith, laws .most (a .figure .0) (b .figure .0), join-most q v (b .site) (qualifies q a) (a .set) (qualifies q b) (b .set));
           }
 
   pub step-room : Invariant combine q (Room (relationsOf q))

@@ -15,7 +15,7 @@ use Rattle.query.specs.Query.{relationsOf, sitesOf, home, index, mayJoin, joinF
 use Rattle.query.specs.Prices.{linePrice, joinPrice, indexed}
 use Rattle.rules.specs.declared.Origin.the-variants.{Bare}
 use Rattle.rules.specs.declared.Held.{Held}
-use Rattle.rules.specs.Machine.{Machine, Outcome, went, refused, guard, charge, isSent, load, sentTo, sendTop, send, links, spared, joinOf, joinTop, join, step}
+use Rattle.rules.specs.Machine.{Machine, Outcome, went, refused, guard, charge, isSent, load, sentTo, sendTop, send, links, qualifies, joinOf, joinTop, join, step}
 use Rattle.rules.specs.Code.{topFirst, ofRelations, ofLines, ofListed, listedOf, ofParts}
 
 -- A load.
@@ -110,7 +110,7 @@ send-same q t m = ap (guard (ltb t (sitesOf q)) 8) (top (m .stack))
     top (h ∷ hs) = refl
 
 pub join-same : (q : Query) (e : ℕ) (m : Machine) → join _+_ (ofListed (listedOf q) (q .sizes)) e m ≡ join _+_ q e m
-unfolding join joinTop mayJoin joinPrice joinFixed joinRate size spared indexed home index
+unfolding join joinTop mayJoin joinPrice joinFixed joinRate size qualifies indexed home index
 join-same q e m = ap (guard (ltb e (relationsOf q - 1)) 8) (top (m .stack))
   where
     top : (s : List Held) → joinTop _+_ (ofListed (listedOf q) (q .sizes)) e (m .loaded) s ≡ joinTop _+_ q e (m .loaded) s

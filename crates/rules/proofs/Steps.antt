@@ -15,7 +15,7 @@ use Rattle.query.specs.Query.{relationsOf, sitesOf, mayJoin, isOpen}
 use Rattle.query.specs.Prices.{linePrice, joinPrice}
 use Rattle.rules.specs.declared.Step.{Step}
 use Rattle.rules.specs.declared.Held.{Held}
-use Rattle.rules.specs.Machine.{Machine, Outcome, went, refused, guard, isSent, bareOf, load, sentTo, sendTop, send, links, spared, joinOf, joinTop, join, step}
+use Rattle.rules.specs.Machine.{Machine, Outcome, went, refused, guard, isSent, bareOf, load, sentTo, sendTop, send, links, qualifies, joinOf, joinTop, join, step}
 use Rattle.rules.specs.Allowed.{sendPrice, joinStepPrice, stepPrice}
 
 -- What a load of r, a send of h to t and a join of a and b by e ask, so that they go.
@@ -42,7 +42,7 @@ pub record Cases (combine : ℕ → ℕ → ℕ) (q : Query) (P : Machine → Ou
       P (record { loaded = L; stack = h ∷ hs }) (went (record { loaded = L; stack = sentTo q t h ∷ hs })) (linePrice q (h .set) (h .site) t)
   pub joins : (L e : ℕ) (a b : Held) (hs : List Held) → MayJoin q e a b →
       P (record { loaded = L; stack = b ∷ (a ∷ hs) }) (went (record { loaded = L; stack = joinOf combine q a b ∷ hs }))
-      (joinPrice q (b .site) (spared q a) (a .set) (spared q b) (b .set))
+      (joinPrice q (b .site) (qualifies q a) (a .set) (qualifies q b) (b .set))
   pub refuses : (m : Machine) (k p : ℕ) → P m (refused k) p
 
 -- What holds of the refusal, and of what follows where the rule is kept.

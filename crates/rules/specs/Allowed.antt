@@ -12,7 +12,7 @@ use Rattle.query.specs.Query.{relationsOf}
 use Rattle.query.specs.Prices.{linePrice, joinPrice}
 use Rattle.rules.specs.declared.Step.{Step}
 use Rattle.rules.specs.declared.Held.{Held}
-use Rattle.rules.specs.Machine.{Machine, start, Outcome, went, refused, spared, step}
+use Rattle.rules.specs.Machine.{Machine, start, Outcome, went, refused, qualifies, step}
 
 -- How many steps a plan may have, and how many bytes it then has at most: its count, and two a step.
 abbrev pub mostSteps : ℕ
@@ -69,7 +69,7 @@ sendPrice q t (h ∷ hs) = linePrice q (h .set) (h .site) t
 abbrev pub joinStepPrice : Query → List Held → ℕ
 joinStepPrice q [] = 0
 joinStepPrice q (b ∷ []) = 0
-joinStepPrice q (b ∷ (a ∷ hs)) = joinPrice q (b .site) (spared q a) (a .set) (spared q b) (b .set)
+joinStepPrice q (b ∷ (a ∷ hs)) = joinPrice q (b .site) (qualifies q a) (a .set) (qualifies q b) (b .set)
 
 abbrev pub stepPrice : Query → Step → Machine → ℕ
 stepPrice q x m = pick (eqb (x .kind) 2) (sendPrice q (x .arg) (m .stack)) (pick (eqb (x .kind) 3) (joinStepPrice q (m .stack)) 0)

@@ -74,9 +74,9 @@ send q t m = guard (ltb t (sitesOf q)) 8 (sendTop q t (m .loaded) (m .stack))
 unfoldable pub links : Joins → ℕ → ℕ → ℕ → Bool
 links J e P R = eqb (bit P (first J e) + bit R (second J e)) 2 || eqb (bit P (second J e) + bit R (first J e)) 2
 
--- Whether the read of a held result is spared: a bare relation, never sent, that has its index flag set and stands at its home.
-unfoldable pub spared : Query → Held → Bool
-spared q h = isBare (h .origin) && indexed q (h .set) (h .site)
+-- Whether a held result qualifies, so that its index can be followed: a bare relation, never sent, that has its index flag set and stands at its home.
+unfoldable pub qualifies : Query → Held → Bool
+qualifies q h = isBare (h .origin) && indexed q (h .set) (h .site)
 
 -- What joining a and b, at the site of both, makes.
 abbrev pub joinOf : (ℕ → ℕ → ℕ) → Query → Held → Held → Held
@@ -85,7 +85,7 @@ joinOf combine q a b =
       set = a .set + b .set;
       site = b .site;
       origin = Joined;
-      figure = charge (combine (a .figure .0) (b .figure .0) + joinPrice q (b .site) (spared q a) (a .set) (spared q b) (b .set));
+      figure = charge (combine (a .figure .0) (b .figure .0) + joinPrice q (b .site) (qualifies q a) (a .set) (qualifies q b) (b .set));
     }
 
 -- 3, join e: the top two, at one site that may join, one end of e in each, become one there.

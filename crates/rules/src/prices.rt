@@ -15,8 +15,8 @@ ghost use mathlib.Core.List.{[]};
 ghost use lib.ListN.{length, getD};
 ghost use Rattle.relations.specs.Code.{mostSets};
 ghost use Rattle.query.specs.Query.{UpTo};
-ghost use Rattle.query.specs.Prices.{joinPrice, dearestJoin};
-ghost use Rattle.rules.specs.Machine.{isBare, spared, sentTo, joinOf};
+ghost use Rattle.query.specs.Prices.{reads, joinPrice, dearestJoin};
+ghost use Rattle.rules.specs.Machine.{isBare, qualifies, sentTo, joinOf};
 ghost use Rattle.rules.specs.Code.{ofRelations, ofLines, ofSites, ofListed, Amounts};
 
 // The number at a place of a list, and 0 past its end.
@@ -85,17 +85,28 @@ fn is_bare(origin: Origin) -> bool
     }
 }
 
-// The read of a held result is spared.
-fn is_spared(relations: Relations, h: Held) -> bool
+// A held result qualifies: its index can be followed.
+fn qualifies(relations: Relations, h: Held) -> bool
     requires { ⌜ (relations .count ≤ 9) × (h .set < 2 ^ relations .count) ⌝ }
-    ensures { λ r. ⌜ r ≡ spared (ofRelations relations) h ⌝ }
+    ensures { λ r. ⌜ r ≡ qualifies (ofRelations relations) h ⌝ }
 {
     let origin = h.origin;
     let indexed = price::is_indexed(&relations.home, &relations.index, h.set, h.site);
     is_bare(origin) & indexed
 }
 
-// The price of joining sets a and b at a site, with whether the reads of each are spared.
+// The reads of sets a and b in a join, with whether each qualifies.
+fn reads(sizes: &[u32], one: bool, a: usize, other: bool, b: usize) -> Bytes
+    requires { ⌜ (UpTo 1000000000 (now sizes)) ⌝ }
+    ensures { λ r. ⌜ (r .0 ≡ reads one (getD (now (sizes .entry)) a 0) other (getD (now (sizes .entry)) b 0)) × (r .0 ≤ 2000000000) ⌝ }
+{
+    let x = size_at(sizes, a);
+    let y = size_at(sizes, b);
+    let spared = price::spared(price::spareable(one, x), price::spareable(other, y));
+    price::reads(x, y, spared)
+}
+
+// The price of joining sets a and b at a site, with whether each qualifies.
 fn join_price(
     sites: Sites,
     sizes: &[u32],
@@ -108,12 +119,7 @@ fn join_price(
     requires { ⌜ Amounts (now sizes) (sites .fixed) (sites .rate) × (a + b < mostSets) ⌝ }
     ensures { λ r. ⌜ (r .0 ≡ joinPrice (ofSites sites (now (sizes .entry))) site one a other b) × (r .0 ≤ dearestJoin) ⌝ }
 {
-    let read = price::reads(
-        price::mask(one),
-        size_at(sizes, a),
-        price::mask(other),
-        size_at(sizes, b),
-    );
+    let read = reads(sizes, one, a, other, b);
     let result = size_at(sizes, a + b);
     let fixed = fixed_at(&sites.fixed, site);
     let rate = at(&sites.rate, site);
@@ -126,8 +132,8 @@ pub(crate) fn joined(listed: Listed, sizes: &[u32], a: Held, b: Held) -> Held
     requires { ⌜ (listed .relations .count ≤ 9) × (a .set + b .set < 2 ^ listed .relations .count) × (a .figure .0 + b .figure .0 < 2 ^ 62) ⌝ }
     ensures { λ r. ⌜ r ≡ joinOf _+_ (ofListed listed (now (sizes .entry))) a b ⌝ }
 {
-    let one = is_spared(listed.relations, a);
-    let other = is_spared(listed.relations, b);
+    let one = qualifies(listed.relations, a);
+    let other = qualifies(listed.relations, b);
     let site = b.site;
     let price = join_price(listed.sites, sizes, site, one, a.set, other, b.set);
     let both = combine(a.figure, b.figure);

@@ -7,7 +7,7 @@ use native.Mathlib.Omega.{arith}
 use mathlib.Core.Path.{_≡_, refl, sym, ap, subst, _∙_}
 use mathlib.Core.Bool.{Bool, true, false}
 use mathlib.Core.List.{List}
-use lib.Bits.{bitAnd}
+use lib.Bits.{bitAnd, and-le-l}
 use lib.Dec.{eqb}
 use lib.ListN.{getD}
 use lib.Pow.{pow-mono, pow-lt}
@@ -28,8 +28,8 @@ use Rattle.rules.specs.Combine.{Combines}
 use Rattle.tables.specs.Tables.{delivered}
 use Rattle.board.specs.declared.figures.Choice.{Choice}
 use Rattle.board.specs.Figures.{noneMark, mark, ChoiceOf, betterOf, Marked}
-use Rattle.board.specs.Board.{endsAt, sideAt, joinsAt, sitesAt}
-use Rattle.filler.specs.Trials.{Lent, sizeIn, AtSites, trialOf, Triable, joinTrial, Joinable, joinedIn, Startable, startIn, carriageIn, Carriable, siteTrial, siteIn}
+use Rattle.board.specs.Board.{endsAt, sideAt, sparedRow, joinsAt, sitesAt}
+use Rattle.filler.specs.Trials.{Lent, sizeIn, trialOf, Triable, AtSites, joinTrial, Joinable, joinedIn, Startable, startIn, carriageIn, Carriable, siteTrial, siteIn}
 use Rattle.filler.specs.Filling.{Filled}
 use Rattle.solver.specs.Writing.{joinsWithin, siteBy, joinBy, Known}
 use Rattle.board.proofs.LeastFigures.{choice-more, choice-same, place-same}
@@ -97,11 +97,11 @@ module _ (combine : ℕ → ℕ → ℕ) (l : Lent) (S : ℕ) where
 
   -- The joins, one after the other: one that is not in the set changes nothing.
   module _ (joins k e d : ℕ) (kept : Choice) (c : ChoiceOf (joinTrial combine l joins S k) e kept) (is : d ≡ bit joins e) where
-    pub join-better : (p : Parts) (side r : ℕ) (made : Choice) → d ≡ 1 → side ≡ sideAt (l .board) e → p ≡ partsBy S side →
-        r ≡ trialOf combine l (p .first) (p .second) k → made ≡ betterOf r e kept → ChoiceOf (joinTrial combine l joins S k) (e + 1) made
+    pub join-better : (p : Parts) (side i r : ℕ) (made : Choice) → d ≡ 1 → side ≡ sideAt (l .board) e → p ≡ partsBy S side →
+        i ≡ sparedRow (p .first) (p .second) e → r ≡ trialOf combine l (p .first) (p .second) i k → made ≡ betterOf r e kept → ChoiceOf (joinTrial combine l joins S k) (e + 1) made
     unfolding joinTrial
-    join-better p side r made one side-is parts-are r-is made-is =
-        choice-more _ e r kept made c (r-is ∙ rw (parts-are, side-is, eq-eqb (bit joins e) 1 (sym is ∙ one))) made-is
+    join-better p side i r made one side-is parts-are row-is r-is made-is =
+        choice-more _ e r kept made c (r-is ∙ rw (row-is, parts-are, side-is, eq-eqb (bit joins e) 1 (sym is ∙ one))) made-is
 
     pub join-worse : (d ≡ 1 → ⊥) → ChoiceOf (joinTrial combine l joins S k) (e + 1) kept
     unfolding joinTrial
@@ -117,6 +117,9 @@ module _ (combine : ℕ → ℕ → ℕ) (C : Combines combine) (q : Query) (l :
 
   pub known-low : S < mostSets
   known-low = below-sets S (relationsOf q) (k .laid .valid .relations-most) low
+
+  pub parts-low : (side : ℕ) (p : Parts) → p ≡ partsBy S side → (p .first < mostSets) × (p .second < mostSets)
+  parts-low side p is = rw is (omega (arith, known-low, and-le-l S side), omega (arith, known-low))
 
   pub filled-here : Filled combine q (l .places) (l .work) S
   filled-here =
@@ -156,7 +159,8 @@ module _ (combine : ℕ → ℕ → ℕ) (C : Combines combine) (q : Query) (l :
           lanes .each i (omega (arith, k .laid .board .sites))
           ∙ rw (joins-are, within-is combine C q l (k .laid) S (k .subquery)) (columns.start-is combine C q l (k .laid) S (k .subquery) filled-here i h)
 
-  pub triable : (joins e d side i : ℕ) (p : Parts) → joins ≡ within l S → e < 8 → i < sitesOf q → d ≡ bit joins e → d ≡ 1 → side ≡ sideAt (l .board) e →
-      p ≡ partsBy S side → Triable l (p .first) (p .second) i
-  triable joins e d side i p is h listed d-is one side-is parts-are =
-      rw (parts-are, side-is) (joinable joins is .each e i h (omega (arith, k .laid .board .sites, reach-least (sitesAt (l .board)) (joinable joins is .few-sites))) (sym d-is ∙ one))
+  pub triable : (joins e d side i row : ℕ) (p : Parts) → joins ≡ within l S → e < 8 → i < sitesOf q → d ≡ bit joins e → d ≡ 1 → side ≡ sideAt (l .board) e →
+      p ≡ partsBy S side → row ≡ sparedRow (p .first) (p .second) e → Triable l (p .first) (p .second) row i
+  triable joins e d side i row p is h listed d-is one side-is parts-are row-is =
+      rw (row-is, parts-are, side-is)
+      (joinable joins is .each e i h (omega (arith, k .laid .board .sites, reach-least (sitesAt (l .board)) (joinable joins is .few-sites))) (sym d-is ∙ one))

@@ -1,4 +1,5 @@
 // How a plan is read off the cells, from Delivered(all, query site) down: delivered and joined call each other, over fewer relations each time.
+use board::BOARD;
 use board::Choice;
 use board::NONE;
 use board::better;
@@ -7,6 +8,7 @@ use board::homes_at;
 use board::joins_of;
 use board::side_at;
 use board::sites_of;
+use board::spared_row;
 use filler::carriage;
 use filler::joined_row;
 use filler::size_of;
@@ -67,7 +69,7 @@ fn bit_within(inside: bool, e: usize) -> usize
 }
 
 // The joins in a set, as bits.
-fn joins_within(board: &[u64; 256], set: usize) -> usize
+fn joins_within(board: &[u64; BOARD], set: usize) -> usize
     requires { ⌜ joinsAt (now board) ≤ 8 ⌝ }
     ensures { λ r. ⌜ (r ≡ joinsWithin (now (board .entry)) set (joinsAt (now (board .entry)))) × (r < 256) ⌝ }
 {
@@ -82,7 +84,7 @@ fn joins_within(board: &[u64; 256], set: usize) -> usize
 }
 
 // The least figure at t and its lowest site, by what a set has cost at each site.
-fn best_site(board: &[u64; 256], row: &[u64; 8], size: Bytes, t: usize) -> Choice
+fn best_site(board: &[u64; BOARD], row: &[u64; 8], size: Bytes, t: usize) -> Choice
     requires { ⌜ Marked (now row) × (Carriable (now board) (size .0) × (t < 8)) ⌝ }
     ensures { λ r. ⌜ ChoiceOf (siteTrial (λ (k : ℕ). getD (now (row .entry)) k 0) (now (board .entry)) (size .0) t) (sitesAt (now (board .entry))) r ⌝ }
 {
@@ -102,7 +104,7 @@ fn best_site(board: &[u64; 256], row: &[u64; 8], size: Bytes, t: usize) -> Choic
 
 // What the whole query costs at the query site, as a figure. Its cells are nobody's part, so that they are not kept.
 pub(crate) fn cheapest<'a>(
-    board: &'a [u64; 256],
+    board: &'a [u64; BOARD],
     sizes: &'a [u32; SETS],
     places: &'a [u32; SETS],
     work: &[u64],
@@ -128,7 +130,7 @@ pub(crate) fn cheapest<'a>(
 
 // The site where a set is joined for delivery at t.
 fn join_site<'a>(
-    board: &'a [u64; 256],
+    board: &'a [u64; BOARD],
     sizes: &'a [u32; SETS],
     places: &'a [u32; SETS],
     work: &[u64],
@@ -145,7 +147,7 @@ fn join_site<'a>(
 
 // The join that is taken last for a set at site k.
 fn last_join<'a>(
-    board: &'a [u64; 256],
+    board: &'a [u64; BOARD],
     sizes: &'a [u32; SETS],
     places: &'a [u32; SETS],
     work: &[u64],
@@ -165,7 +167,7 @@ fn last_join<'a>(
         if bit(joins, e) == 1 {
             let parts = split(set, side_at(board, e));
             best = better(
-                trial(board, sizes, places, work, parts.first, parts.second, k),
+                trial(board, sizes, places, work, parts, spared_row(parts, e), k),
                 e,
                 best,
             );
@@ -179,7 +181,7 @@ fn last_join<'a>(
 
 // Writes the steps that deliver a set at t: the load for one relation, else those of its join; then a send if one is due.
 fn write_delivered<'a>(
-    board: &'a [u64; 256],
+    board: &'a [u64; BOARD],
     sizes: &'a [u32; SETS],
     places: &'a [u32; SETS],
     work: &[u64],
@@ -206,7 +208,7 @@ fn write_delivered<'a>(
 
 // Writes the steps that join a set at k: the part with the join's first relation, the other part and the join.
 fn write_joined<'a>(
-    board: &'a [u64; 256],
+    board: &'a [u64; BOARD],
     sizes: &'a [u32; SETS],
     places: &'a [u32; SETS],
     work: &[u64],
@@ -229,7 +231,7 @@ fn write_joined<'a>(
 
 // Writes the plan: its count of steps, then the steps.
 pub(crate) fn write_plan<'a>(
-    board: &'a [u64; 256],
+    board: &'a [u64; BOARD],
     sizes: &'a [u32; SETS],
     places: &'a [u32; SETS],
     work: &[u64],

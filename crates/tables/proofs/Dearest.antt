@@ -1,5 +1,4 @@
 -- The dearest plan costs `mostCost`, by computation; the query keeps to the limits, list by list.
-use Prim.Native.Nat.{ℕ, _≤_, _<_}
 use mathlib.Core.Path.{refl}
 use native.Mathlib.Omega.{arith}
 use lib.Count.{ones, onesIn, trailingZeros}
@@ -8,7 +7,6 @@ use Rattle.relations.specs.Growth.{inside, leads, step, grow}
 use Rattle.relations.specs.Trees.{Tree, reaches}
 use Rattle.query.specs.Query.{home, index, mayJoin, joinFixed, joinRate, isOpen, lineFixed, lineRate, size}
 use Rattle.query.specs.Prices.{parcels, linePrice, reads, joinPrice, indexed}
-use Rattle.query.specs.Prices as prices
 use Rattle.query.proofs.Limits.{up-to-each}
 use Rattle.rules.specs.Machine as machine
 use Rattle.rules.specs.Allowed as plans
@@ -26,7 +24,7 @@ chain-tree =
     }
 
 pub most-reached : MostReached
-unfolding ones onesIn trailingZeros bit home index mayJoin joinFixed joinRate isOpen lineFixed lineRate size parcels linePrice prices.read reads joinPrice indexed machine.load machine.sendTop machine.send machine.links machine.spared machine.joinTop machine.join machine.step plans.finish plans.run plans.checked
+unfolding ones onesIn trailingZeros bit home index mayJoin joinFixed joinRate isOpen lineFixed lineRate size parcels linePrice reads joinPrice indexed machine.load machine.sendTop machine.send machine.links machine.qualifies machine.joinTop machine.join machine.step plans.finish plans.run plans.checked
 most-reached =
     record {
       valid =

@@ -19,12 +19,12 @@ use Rattle.query.specs.declared.Query.{Query}
 use Rattle.query.specs.Cost.{some, both, AtMost}
 use Rattle.query.specs.Query.{Valid, relationsOf, sitesOf, home, mayJoin, isOpen}
 use Rattle.query.specs.Prices.{linePrice, carriage, joinPrice, indexed}
-use Rattle.query.proofs.Prices.{join-either, spared-cheaper, carriage-stays, carriage-sent}
+use Rattle.query.proofs.Prices.{join-either, qualified-cheaper, carriage-stays, carriage-sent}
 use Rattle.rules.specs.declared.Origin.{Origin}
 use Rattle.rules.specs.declared.Origin.the-variants.{Bare, Sent, Joined}
 use Rattle.rules.specs.declared.Held.{Held}
 use Rattle.rules.specs.Combine.{Combines}
-use Rattle.rules.specs.Machine.{bareOf, isBare, isSent, sentTo, links, spared, joinOf}
+use Rattle.rules.specs.Machine.{bareOf, isBare, isSent, sentTo, links, qualifies, joinOf}
 use Rattle.rules.proofs.Links.{links-means}
 use Rattle.rules.proofs.Steps.{MaySend, MayJoin}
 use Rattle.rules.proofs.Invariants.{Ends}
@@ -83,8 +83,8 @@ module _ (combine : ℕ → ℕ → ℕ) (laws : Combines combine) (q : Query) (
       (plus-most (both combine (delivered combine q P k) (delivered combine q R k)) (some (joinPrice q k (indexed q P k) P (indexed q R k) R)) (combine x y) z
       (both-most combine (laws .mono) (delivered combine q P k) (delivered combine q R k) x y one other) price))
 
-  spares : (h : Held) → spared q h ≡ true → indexed q (h .set) (h .site) ≡ true
-  unfolding spared
+  spares : (h : Held) → qualifies q h ≡ true → indexed q (h .set) (h .site) ≡ true
+  unfolding qualifies
   spares h e = both-true (isBare (h .origin)) (indexed q (h .set) (h .site)) e .1
 
   -- A join of two results at k, either way round.
@@ -94,10 +94,10 @@ module _ (combine : ℕ → ℕ → ℕ) (laws : Combines combine) (q : Query) (
   joins-at : (P R e k x y : ℕ) (i j : Bool) → Subquery (q .joins) (relationsOf q) P → Subquery (q .joins) (relationsOf q) R → Apart P R → e < q .joins .count →
       mayJoin q k ≡ true → links (q .joins) e P R ≡ true → (i ≡ true → indexed q P k ≡ true) → (j ≡ true → indexed q R k ≡ true) →
       AtMost (delivered combine q P k) x → AtMost (delivered combine q R k) y → JoinedAt P R k x y i j
-  joins-at P R e k x y i j p r apart l may linked spared-p spared-r one other = go (links-means (q .joins) e P R linked)
+  joins-at P R e k x y i j p r apart l may linked qualified-p qualified-r one other = go (links-means (q .joins) e P R linked)
     where
       cheaper : joinPrice q k (indexed q P k) P (indexed q R k) R ≤ joinPrice q k i P j R
-      cheaper = spared-cheaper q k i (indexed q P k) P j (indexed q R k) R spared-p spared-r
+      cheaper = qualified-cheaper q k i (indexed q P k) P j (indexed q R k) R qualified-p qualified-r
 
       go : ((bit P (first (q .joins) e) ≡ 1) × (bit R (second (q .joins) e) ≡ 1)) ⊎ ((bit P (second (q .joins) e) ≡ 1) × (bit R (first (q .joins) e) ≡ 1)) →
           JoinedAt P R k x y i j
@@ -133,7 +133,7 @@ module _ (combine : ℕ → ℕ → ℕ) (laws : Combines combine) (q : Query) (
       made e a b may apart fa fb =
           let known : e < q .joins .count = omega (arith, v .tree .joins) in
           let both-at =
-          joins-at (a .set) (b .set) e (b .site) (a .figure .0) (b .figure .0) (spared q a) (spared q b) (fa .subquery) (fb .subquery) apart known (may .may)
+          joins-at (a .set) (b .set) e (b .site) (a .figure .0) (b .figure .0) (qualifies q a) (qualifies q b) (fa .subquery) (fb .subquery) apart known (may .may)
           (may .linked) (λ s. subst (λ (k : ℕ). indexed q (a .set) k ≡ true) (may .there) (spares a s)) (spares b)
           (subst (λ (k : ℕ). AtMost (delivered combine q (a .set) k) (a .figure .0)) (may .there) (at-site a fa)) (at-site b fb) in
           record {

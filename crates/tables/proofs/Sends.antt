@@ -23,7 +23,7 @@ use Rattle.rules.specs.declared.Step.{Step}
 use Rattle.rules.specs.declared.Origin.{Origin}
 use Rattle.rules.specs.declared.Origin.the-variants.{Bare, Sent}
 use Rattle.rules.specs.declared.Held.{Held}
-use Rattle.rules.specs.Machine.{Machine, went, charge, isSent, spared}
+use Rattle.rules.specs.Machine.{Machine, went, charge, isSent, qualifies}
 use Rattle.rules.proofs.Runs.{ran, load-goes, send-goes, ran-then, ran-one}
 use Rattle.tables.specs.Tables.{only, delivered}
 use Rattle.tables.specs.Written.{loadStep, sendStep, sendIfDue}
@@ -40,7 +40,7 @@ Puts combine q xs S t o c =
 -- They do so, the result is read by its index just where the tables say so, and there are at most 4 steps a relation less 2.
 pub record Delivers (combine : ℕ → ℕ → ℕ) (q : Query) (xs : List Step) (S t c : ℕ) : Type 0 where
   pub origin : Origin
-  pub reads : spared q (heldAt S t origin c) ≡ indexed q S t
+  pub reads : qualifies q (heldAt S t origin c) ≡ indexed q S t
   pub puts : Puts combine q xs S t origin c
   pub long : 1 ≤ length xs
   pub short : length xs + 2 ≤ 4 * ones S
@@ -55,7 +55,7 @@ unfolding indexed
 away-unindexed q S k one away = rw (eq-eqb (ones S) 1 one, ne-eqb (home q (only q S)) k away)
 
 module _ (combine : ℕ → ℕ → ℕ) (q : Query) where
-  stays : (xs : List Step) (S k x : ℕ) (o : Origin) → Puts combine q xs S k o x → spared q (heldAt S k o x) ≡ indexed q S k → 1 ≤ length xs →
+  stays : (xs : List Step) (S k x : ℕ) (o : Origin) → Puts combine q xs S k o x → qualifies q (heldAt S k o x) ≡ indexed q S k → 1 ≤ length xs →
       length xs + 3 ≤ 4 * ones S → Delivers combine q (xs ++ []) S k x
   unfolding ran
   stays xs S k x o puts reads long short =
@@ -69,7 +69,7 @@ module _ (combine : ℕ → ℕ → ℕ) (q : Query) where
 
   sent : (xs : List Step) (S k t x : ℕ) (o : Origin) → Puts combine q xs S k o x → isSent o ≡ false → t < sitesOf q → (k ≡ t → ⊥) → isOpen q k t ≡ true →
       indexed q S t ≡ false → 1 ≤ length xs → length xs + 3 ≤ 4 * ones S → Delivers combine q (xs ++ (sendStep t ∷ [])) S t (x + linePrice q S k t)
-  unfolding spared
+  unfolding qualifies
   sent xs S k t x o puts fresh listed away opened unindexed long short =
       record {
         origin = Sent;
@@ -85,7 +85,7 @@ module _ (combine : ℕ → ℕ → ℕ) (q : Query) where
       }
 
   -- A result that stands at k is delivered at t by a send if one is due.
-  pub due : (xs : List Step) (S k t x y : ℕ) (o : Origin) → Puts combine q xs S k o x → isSent o ≡ false → spared q (heldAt S k o x) ≡ indexed q S k →
+  pub due : (xs : List Step) (S k t x y : ℕ) (o : Origin) → Puts combine q xs S k o x → isSent o ≡ false → qualifies q (heldAt S k o x) ≡ indexed q S k →
       ((k ≡ t → ⊥) → indexed q S t ≡ false) → t < sitesOf q → carriage q S k t ≡ some y → 1 ≤ length xs → length xs + 3 ≤ 4 * ones S →
       Delivers combine q (xs ++ sendIfDue k t) S t (x + y)
   due xs S k t x y o puts fresh reads unindexed listed price long short = go (carried q S k t y price)
@@ -107,7 +107,7 @@ module _ (combine : ℕ → ℕ → ℕ) (q : Query) where
   -- One relation: the load, then a send if one is due.
   pub delivers-one : Valid q → (S t c : ℕ) → Subquery (q .joins) (relationsOf q) S → ones S ≡ 1 → t < sitesOf q → delivered combine q S t ≡ some c →
       Delivers combine q (loadStep (only q S) ∷ sendIfDue (home q (only q S)) t) S t c
-  unfolding spared
+  unfolding qualifies
   delivers-one v S t c s one listed e =
       let range = subqueries-law (q .joins) (relationsOf q) (v .tree) .range S s in
       let r : ℕ = only q S in

@@ -22,7 +22,7 @@ use Rattle.rules.specs.declared.Step.{Step}
 use Rattle.rules.specs.declared.Origin.the-variants.{Joined}
 use Rattle.rules.specs.declared.Held.{Held}
 use Rattle.rules.specs.Combine.{Combines}
-use Rattle.rules.specs.Machine.{Machine, start, Outcome, went, links, spared}
+use Rattle.rules.specs.Machine.{Machine, start, Outcome, went, links, qualifies}
 use Rattle.rules.specs.Allowed.{mostSteps, longestPlan, accepted, finish, checked}
 use Rattle.rules.proofs.Links.{links-of}
 use Rattle.rules.proofs.Runs.{join-goes, ran-then, ran-one, ran-ends}
@@ -72,7 +72,7 @@ module _ (combine : ℕ → ℕ → ℕ) (q : Query) where
       delivered combine q S t ≡ some c →
       ((P k x : ℕ) → Subquery (q .joins) (relationsOf q) P → ones P < ones S → k < sitesOf q → delivered combine q P k ≡ some x → Delivers combine q (D P k) P k x) →
       Delivers combine q (joinedSteps combine D q S (bestSite combine q S t) ++ sendIfDue (bestSite combine q S t) t) S t c
-  unfolding joinedSteps spared
+  unfolding joinedSteps qualifies
   delivers-more v D S t c s more listed number fewer =
       let k : ℕ = bestSite combine q S t in
       let e : ℕ = bestJoin combine q S k in

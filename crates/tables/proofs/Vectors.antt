@@ -6,12 +6,14 @@ use Rattle.relations.specs.Sets.{bit, put}
 use Rattle.relations.specs.Growth.{inside, leads, step, grow}
 use Rattle.relations.specs.Trees.{isSubquery, part}
 use Rattle.query.specs.Query.{home, index, mayJoin, joinFixed, joinRate, isOpen, lineFixed, lineRate, size}
-use Rattle.query.specs.Prices.{parcels, linePrice, carriage, read, reads, joinPrice, indexed}
+use Rattle.query.specs.Prices.{parcels, linePrice, carriage, reads, joinPrice, indexed}
+use Rattle.rules.specs.Machine as machine
+use Rattle.rules.specs.Allowed as plans
 use Rattle.tables.specs.Least.{best}
 use Rattle.tables.specs.Tables.{byJoin, joinedBy, deliveredBy, deliveredUpTo, delivered, joined, joinsBelow}
 use Rattle.tables.specs.Written.{bestSite, bestJoin, joinedSteps, deliveredSteps, stepsUpTo, writtenDelivered}
 use Rattle.tables.specs.Vectors.{vectors, answered, everyAnswered}
 
 pub vectors-hold : everyAnswered vectors ≡ true
-unfolding ones onesIn trailingZeros bit put inside leads step grow isSubquery part home index mayJoin joinFixed joinRate isOpen lineFixed lineRate size parcels linePrice carriage read reads joinPrice indexed best byJoin joinedBy deliveredBy deliveredUpTo delivered joined joinsBelow bestSite bestJoin joinedSteps deliveredSteps stepsUpTo writtenDelivered answered
+unfolding ones onesIn trailingZeros bit put inside leads step grow isSubquery part home index mayJoin joinFixed joinRate isOpen lineFixed lineRate size parcels linePrice carriage reads joinPrice indexed best byJoin joinedBy deliveredBy deliveredUpTo delivered joined joinsBelow bestSite bestJoin joinedSteps deliveredSteps stepsUpTo writtenDelivered machine.load machine.sendTop machine.send machine.links machine.qualifies machine.joinTop machine.join machine.step plans.finish plans.run plans.checked answered
 vectors-hold = refl

@@ -1,5 +1,6 @@
--- Queries with their answers: cost, trials and the written plan's bytes. They tell what no law of the cheapest plan can: the ties, which part is
--- written first, and the trials. `vectors-hold` in proofs/ is their one theorem.
+-- Queries with their answers: cost, trials and the written plan's bytes; the check accepts each plan at that cost. They tell what no law of the
+-- cheapest plan can: the ties, which part is written first, and the trials; and the figures of the index rule. `vectors-hold` in proofs/ is their
+-- one theorem.
 use Prim.Native.Nat.{ℕ, _+_}
 use mathlib.Core.Bool.{Bool, true, false, _&&_}
 use mathlib.Core.List.{List, [], _∷_}
@@ -9,6 +10,7 @@ use Rattle.relations.specs.declared.Joins.{Joins}
 use Rattle.query.specs.declared.Query.{Query}
 use Rattle.query.specs.Cost.{some}
 use Rattle.query.specs.Zeros.{noLines}
+use Rattle.rules.specs.Allowed.{Verdict, accepted, rejected, checked}
 use Rattle.tables.specs.Tables.{cheapest, trials}
 use Rattle.tables.specs.Written.{written}
 use Rattle.tables.specs.Rows.{filled, everyLine, Q, withTarget, withIndex, withMay, withLines, same}
@@ -46,6 +48,18 @@ twoPairs =
     atOneSite 4 (record { count = 3; first = filled 8 (0 ∷ 1 ∷ 2 ∷ []); second = filled 8 (1 ∷ 2 ∷ 3 ∷ []) })
     (0 ∷ 1 ∷ 1 ∷ 1 ∷ 1 ∷ 0 ∷ 9 ∷ 9 ∷ 1 ∷ 0 ∷ 0 ∷ 0 ∷ 1 ∷ 0 ∷ 9 ∷ 1 ∷ [])
 
+-- Q with both relations at site 0, both with an index, and sizes x, y and 3.
+abbrev pub twoIndexes : ℕ → ℕ → Query
+twoIndexes x y =
+    record {
+      sites = Q .sites;
+      relations = record { count = 2; home = filled 9 []; index = filled 9 (1 ∷ 1 ∷ []) };
+      joins = Q .joins;
+      sizes = filled mostSets (0 ∷ x ∷ y ∷ 3 ∷ []);
+      lines = Q .lines;
+      target = 0;
+    }
+
 abbrev pub vectors : List Vector
 vectors =
     -- Q: load 0, load 1, send 0, join 0.
@@ -75,6 +89,19 @@ vectors =
       trials = 3;
       plan = 5 ∷ 1 ∷ 0 ∷ 2 ∷ 1 ∷ 1 ∷ 1 ∷ 3 ∷ 0 ∷ 2 ∷ 0 ∷ [];
     }
+    -- Both relations qualify at site 0: one index is followed, that of the larger, and the smaller is read. With equal sizes one of them is read.
+    ∷ record { query = twoIndexes 10 4; cost = 9; trials = 3; plan = 3 ∷ 1 ∷ 0 ∷ 1 ∷ 1 ∷ 3 ∷ 0 ∷ [] }
+    ∷ record { query = twoIndexes 4 10; cost = 9; trials = 3; plan = 3 ∷ 1 ∷ 0 ∷ 1 ∷ 1 ∷ 3 ∷ 0 ∷ [] }
+    ∷ record { query = twoIndexes 5 5; cost = 10; trials = 3; plan = 3 ∷ 1 ∷ 0 ∷ 1 ∷ 1 ∷ 3 ∷ 0 ∷ [] }
+    -- Both have their index but site 0 may not join: both are sent to site 1, so both are read.
+    ∷ record {
+      query = withMay (0 ∷ 1 ∷ 1 ∷ []) (twoIndexes 10 4);
+      cost = 26;
+      trials = 3;
+      plan = 6 ∷ 1 ∷ 0 ∷ 2 ∷ 1 ∷ 1 ∷ 1 ∷ 2 ∷ 1 ∷ 3 ∷ 0 ∷ 2 ∷ 0 ∷ [];
+    }
+    -- Both have their index, at different homes: at site 0 relation 0 qualifies and relation 1, which was sent there, is read.
+    ∷ record { query = withIndex (1 ∷ 1 ∷ []) Q; cost = 11; trials = 3; plan = 4 ∷ 1 ∷ 0 ∷ 1 ∷ 1 ∷ 2 ∷ 0 ∷ 3 ∷ 0 ∷ [] }
     -- Two pairs are joined: no operand of the last join is a single relation.
     ∷ record { query = twoPairs; cost = 15; trials = 10; plan = 7 ∷ 1 ∷ 0 ∷ 1 ∷ 1 ∷ 3 ∷ 0 ∷ 1 ∷ 2 ∷ 1 ∷ 3 ∷ 3 ∷ 2 ∷ 3 ∷ 1 ∷ [] }
     ∷ []
@@ -85,8 +112,14 @@ sameBytes [] (y ∷ ys) = false
 sameBytes (x ∷ xs) [] = false
 sameBytes (x ∷ xs) (y ∷ ys) = eqb x y && sameBytes xs ys
 
+abbrev pub acceptedAt : Verdict → ℕ → Bool
+acceptedAt (accepted c) n = eqb c n
+acceptedAt (rejected k i) n = false
+
 unfoldable pub answered : Vector → Bool
-answered v = same (cheapest _+_ (v .query)) (some (v .cost)) && (eqb (trials (v .query)) (v .trials) && sameBytes (written _+_ (v .query)) (v .plan))
+answered v =
+    (same (cheapest _+_ (v .query)) (some (v .cost)) && (eqb (trials (v .query)) (v .trials) && sameBytes (written _+_ (v .query)) (v .plan)))
+    && acceptedAt (checked _+_ (v .query) (v .plan)) (v .cost)
 
 abbrev pub everyAnswered : List Vector → Bool
 everyAnswered [] = true

@@ -1,4 +1,4 @@
--- `trials::price_at` meets its contract: the masks, the sizes and the amounts are those of the board and the sizes. Assumes nothing.
+-- `trials::price_at` meets its contract: what is spared, the sizes and the amounts are those of the board and the sizes. Assumes nothing.
 use native.Mathlib.Omega.{arith}
 use borrow.Author.Needs.{needs}
 use Rattle.filler.proofs.Trying.{reads-ask, price-asks, price-is}
@@ -11,10 +11,11 @@ price-at-spec =
     (tie.spec
     (λ c κs. search needs)
     (λ c κs. search needs)
-    (λ c κs. search needs)
-    (λ c κs. search needs)
-    (λ c κs. let m = c .before .before in
-    reads-ask _ _ _ _ _ _ _ _ _ (m .before .before .pre) (m .before .counted-at .ensures) (m .counted-at2 .ensures) (c .before .size-of .ensures) (search needs))
+    (λ c. search needs)
+    (λ c. search needs)
+    (λ c. search needs)
+    (λ c. search needs)
+    (λ c κs. let y = c .before in let x = y .before in reads-ask _ _ _ _ _ _ _ _ (x .before .pre) (x .size-of .ensures) (y .size-of2 .ensures))
     (λ c. search needs)
     (λ c. search needs)
     (λ c. search needs)
@@ -25,10 +26,9 @@ price-at-spec =
     (λ c. search needs)
     (λ c. search needs)
     (λ c κs. search needs)
-    (λ c κs. let r = c .before .before .before in let m = r .before .before .before in
-    price-asks _ _ _ _ _ _ _ (m .before .before .pre) (r .reads .ensures .1) (c .size-of3 .ensures))
-    (λ c. let z = c .before in let r = z .before .before .before in let y = r .before in let m = y .before .before in let s = m .before .before in (
-      price-is _ _ _ _ _ _ _ _ _ (s .pre) (m .before .counted-at .ensures) (m .counted-at2 .ensures) (y .before .size-of .ensures) (search needs)
-          _ _ _ (r .reads .ensures .0) (z .size-of3 .ensures) (c .join-price .ensures .0),
+    (λ c κs. let r = c .before .before .before .before in let s = r .before .before .before .before in
+    price-asks _ _ _ _ _ _ _ _ (s .pre) (r .reads .ensures .1) (c .size-of3 .ensures))
+    (λ c. let z = c .before in let r = z .before .before .before .before in let y = r .before .before in let x = y .before in let s = x .before in (
+      price-is _ _ _ _ _ _ _ _ (s .pre) (x .size-of .ensures) (y .size-of2 .ensures) _ _ _ (r .reads .ensures .0) (z .size-of3 .ensures) (c .join-price .ensures .0),
       omega (arith, c .join-price .ensures .1, s .pre .fixed-most),
     )))

@@ -10,10 +10,11 @@ use Rattle.filler.proofs.trials.try_pair.Statement.{statement}
 use Rattle.filler.proofs.trials.try_pair.Tie as tie
 
 abbrev Inv-loop : tie.InvT-loop
-Inv-loop row₀ board sizes places work part rest site i₀ row i = (i ≤ 2) × TriedFrom row₀ row (trialOf _+_ (lent board sizes places work) part rest) site i
+Inv-loop row₀ board sizes places work parts spared site i₀ row i =
+    (i ≤ 2) × TriedFrom row₀ row (trialOf _+_ (lent board sizes places work) (parts .first) (parts .second) spared) site i
 
 abbrev μ-loop : tie.MeasureT-loop
-μ-loop row₀ board sizes places work part rest site i₀ row i = 2 - i
+μ-loop row₀ board sizes places work parts spared site i₀ row i = 2 - i
 
 pub try-pair-spec : {M : Type 1} → statement M
 try-pair-spec =

@@ -5,7 +5,7 @@ use Rattle.rules.proofs.Combinations.{plus-combines}
 use Rattle.board.specs.Figures.{ChoiceOf}
 use Rattle.filler.specs.Trials.{lent, joinTrial}
 use Rattle.board.proofs.LeastFigures.{choice-none}
-use Rattle.solver.proofs.Choices.{few-joins, triable, join-better, join-worse, join-by}
+use Rattle.solver.proofs.Choices.{few-joins, parts-low, triable, join-better, join-worse, join-by}
 use Rattle.solver.proofs.writing.last_join.Statement.{statement}
 use Rattle.solver.proofs.writing.last_join.Tie as tie
 
@@ -26,12 +26,13 @@ last-join-spec =
     (λ c κs. search needs)
     (λ c κs. search needs)
     (λ c κs. search needs)
+    (λ c κs. (parts-low _ plus-combines _ _ _ (c .before .before .before .before .before .before .before .before .pre .1 .known) _ _ (c .split .ensures), search needs))
     (λ c κs. search (needs, triable, plus-combines))
     (λ c κs. search needs)
     (λ c. search needs)
     (λ c. search needs)
-    (λ c. let t = c .before in let p = t .before in let a = p .before in let b = a .before .before in let i = b .before .before in
-    (search needs, join-better _ _ _ _ _ _ (b .bit .result) _ (i .loop .inv .1) (search needs) _ _ _ _ (search needs) (a .side-at .ensures) (p .split .ensures) (t .trial .ensures .0) (c .better .ensures)))
+    (λ c. let t = c .before in let r = t .before in let p = r .before in let a = p .before in let b = a .before .before in let i = b .before .before in
+    (search needs, join-better _ _ _ _ _ _ (b .bit .result) _ (i .loop .inv .1) (search needs) _ _ _ _ _ (search needs) (a .side-at .ensures) (p .split .ensures) (r .spared-row .ensures .0) (t .trial .ensures .0) (c .better .ensures)))
     (λ c. search needs)
     (λ c. search needs)
     (λ c. (search needs, search (needs, join-worse)))

@@ -3,13 +3,13 @@ use native.Mathlib.Omega.{arith}
 use borrow.Author.Needs.{needs}
 use borrow.Author.Tests.{eq-eqb, ne-eqb}
 use Rattle.query.proofs.Indexed.{place-fits, one-of-nine}
-use Rattle.board.specs.Board.{countedRow}
-use Rattle.board.proofs.lanes.counted_row.Statement.{statement}
-use Rattle.board.proofs.lanes.counted_row.Tie as tie
+use Rattle.board.specs.Board.{operandRow}
+use Rattle.board.proofs.lanes.operand_row.Statement.{statement}
+use Rattle.board.proofs.lanes.operand_row.Tie as tie
 
-pub counted-row-spec : {M : Type 1} → statement M
-unfolding countedRow
-counted-row-spec =
+pub operand-row-spec : {M : Type 1} → statement M
+unfolding operandRow
+operand-row-spec =
     tie.close
     (tie.spec
     (λ c. place-fits _)
