@@ -3,9 +3,11 @@
  * A figure is a double. Every cost is a whole number far below 2^53, so sums, products and comparisons are exact. None is
  * infinity, and a sum with it stays infinity. The lesser of two is one instruction, which it is not for 64-bit integers.
  *
- * A cell holds what a subquery costs as an operand at each site: Delivered, and the read. So a trial is one sum and one
- * lesser for all sites at once. Joins and reads go by the byte and are worked out once for a subquery; lines go by the
- * parcel, with a row for every site where a result is made, and a row is one product, two sums and one lesser.
+ * A cell holds what a subquery costs as an operand at each site: Delivered, and the read, which is 0 where it qualifies. So
+ * a trial is one sum and one lesser for all sites at once. Joins and reads go by the byte and are worked out once for a
+ * subquery; lines go by the parcel, with a row for every site where a result is made, and a row is one product, two sums and
+ * one lesser. Where both operands qualify neither cell has a read, and the smaller is to be read. They are then two relations,
+ * and two have one join: such a set goes a way of its own, and all larger ones know nothing of it.
  *
  * The joins are a tree, hung from relation 0. A join is known by its lower relation, and the part beyond it is what hangs
  * from there, so a split is one mask.
@@ -247,6 +249,19 @@ static void read_lines(reader *r, plain_query *q)
     }
 }
 
+/* What a join of two relations reads beyond their cells: the smaller, at the home where both qualify. */
+static void price_pairs(plain_query *q)
+{
+    for (int r = 1; r < q->relations; r++) {
+        int a = q->above[r], home = q->home[r];
+        q->pair_read[r] = (plain_lanes){{0}};
+        if (q->indexed[r] & q->indexed[a] & (q->home[a] == home)) {
+            double one = (int)q->size[1u << r], other = (int)q->size[1u << a];
+            q->pair_read[r].at[home] = q->join_rate.at[home] * lesser(one, other);
+        }
+    }
+}
+
 static int load(plain_query *q, const uint8_t *file, size_t length, int from_rows)
 {
     reader r = {file, file + length, 0};
@@ -267,6 +282,8 @@ static int load(plain_query *q, const uint8_t *file, size_t length, int from_row
     read_lines(&r, q);
     count(&r, 1, 1);
     q->target = byte_below(&r, q->sites);
+    if (!r.refusal)
+        price_pairs(q);
     return r.refusal || r.at == r.end ? r.refusal : MORE;
 }
 
@@ -310,6 +327,14 @@ INLINED int try_joins(const plain_query *q, const plain_lanes *cells, uint32_t s
     return tried;
 }
 
+/* The same for two relations, which have one join. */
+INLINED void try_pair(const plain_query *q, const plain_lanes *cells, uint32_t set, plain_lanes *parts, int sites)
+{
+    uint32_t lower = q->inner[set];
+    const plain_lanes *a = &cells[lower], *b = &cells[set ^ lower], *read = &q->pair_read[__builtin_ctz(lower)];
+    EACH_LANE(k) parts->at[k] = a->at[k] + b->at[k] + read->at[k];
+}
+
 /* A subquery joined at any site as an operand at each site. Even and odd sites have a least each, and neither waits. */
 INLINED void deliver(const plain_query *q, const plain_lanes *parts, uint32_t size, plain_lanes *cell, int sites)
 {
@@ -335,10 +360,14 @@ INLINED int fill(const plain_query *q, plain_lanes *cells, int sites)
 {
     int tried = q->relations - 1;
     for (int i = 0; i < q->subqueries - 1; i++) {
-        uint32_t set = q->subquery[i];
-        if (q->inner[set]) {
-            plain_lanes parts;
+        uint32_t set = q->subquery[i], inner = q->inner[set];
+        plain_lanes parts;
+        if (inner & (inner - 1)) {
             tried += try_joins(q, cells, set, &parts, sites);
+            deliver(q, &parts, q->size[set], &cells[set], sites);
+        } else if (inner) {
+            tried++;
+            try_pair(q, cells, set, &parts, sites);
             deliver(q, &parts, q->size[set], &cells[set], sites);
         } else {
             fill_bare(q, __builtin_ctz(set), &cells[set], sites);
@@ -379,7 +408,10 @@ static choice cheapest(const plain_query *q, const plain_lanes *cells, uint32_t 
     }
     plain_lanes parts;
     choice best = {NONE, 0, 0};
-    try_joins(q, cells, set, &parts, 8);
+    if (q->inner[set] & (q->inner[set] - 1))
+        try_joins(q, cells, set, &parts, 8);
+    else
+        try_pair(q, cells, set, &parts, 8);
     for (int k = 0; k < q->sites; k++) {
         double here = q->join_rate.at[k] * size + q->join_fixed.at[k] + parts.at[k];
         double cost = q->line_rate[k].at[to] * sent + q->line_fixed[k].at[to] + here;
@@ -389,13 +421,14 @@ static choice cheapest(const plain_query *q, const plain_lanes *cells, uint32_t 
     return best;
 }
 
-/* The join behind a choice: the lowest on a tie. */
+/* The join behind a choice: the only one, or else the lowest on a tie. */
 static int join_of(const plain_query *q, const plain_lanes *cells, uint32_t set, choice made)
 {
     for (int e = 0;; e++)
         if (q->inner[set] >> q->lower[e] & 1) {
             uint32_t beyond = set & q->below[q->lower[e]];
-            if (cells[beyond].at[made.site] + cells[set ^ beyond].at[made.site] == made.parts)
+            int only = q->inner[set] == 1u << q->lower[e];
+            if (only || cells[beyond].at[made.site] + cells[set ^ beyond].at[made.site] == made.parts)
                 return e;
         }
 }

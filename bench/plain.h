@@ -19,6 +19,7 @@ typedef struct {
     uint16_t subquery[264];     /* ascending */
     uint16_t inner[512];        /* of each subquery: its relations that hang from one of its relations */
     uint32_t size[512];         /* of each subquery */
+    plain_lanes pair_read[9];   /* of each join, by its lower relation: the read where both its relations qualify, else 0 */
     plain_lanes join_fixed, join_rate;       /* a rate for each byte */
     plain_lanes line_fixed[8], line_rate[8]; /* from each site to each site, 0 to itself; a rate for each parcel */
 } plain_query;

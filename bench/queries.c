@@ -27,6 +27,8 @@ enum { DRAWN, ROWS, WORKED };
 
 typedef struct {
     int sites, relations, first[8], second[8], form;
+    int homes;          /* the relations stand at the first so many sites */
+    uint64_t unindexed; /* one relation in so many has no index */
     uint64_t rows[9], divisors[8];
     amounts fixed, rate, size;
     uint64_t in_parcels;     /* whether a size is drawn as a number of parcels */
@@ -129,8 +131,8 @@ static void write_query(query_file *f, const draft *d)
         put_terms(f, d, d->barred);
     put(f, 1, (uint64_t)d->relations);
     for (int r = 0; r < d->relations; r++) {
-        put(f, 1, below((uint64_t)d->sites));
-        put(f, 1, below(2));
+        put(f, 1, below((uint64_t)d->homes));
+        put(f, 1, below(d->unindexed) != 0);
     }
     put(f, 1, (uint64_t)d->relations - 1);
     for (int e = 0; e < d->relations - 1; e++) {
@@ -181,7 +183,7 @@ static void draw_joins(draft *d, const char *shape)
 
 static draft shaped(const char *shape, int relations, int sites)
 {
-    draft d = {.sites = sites, .relations = relations, .fixed = {0, 1000000}, .rate = {0, 1000}, .size = {0, 1000000}, .closed = 8};
+    draft d = {.sites = sites, .homes = sites, .unindexed = 2, .relations = relations, .fixed = {0, 1000000}, .rate = {0, 1000}, .size = {0, 1000000}, .closed = 8};
     seed(5); /* a tree that branches */
     draw_joins(&d, shape);
     return d;
@@ -251,6 +253,8 @@ static draft random_draft(void)
 {
     static const char *const shapes[] = {"chain", "star", "tree", "tree"};
     draft d = {.sites = 1 + (int)below(8), .relations = 1 + (int)below(9), .barred = below(12), .closed = below(12)};
+    d.homes = d.sites > 2 && below(2) ? 1 + (int)below(2) : d.sites;
+    d.unindexed = 2 + 2 * below(2);
     d.fixed = any_amounts(1000000);
     d.rate = any_amounts(1000);
     d.in_parcels = below(2);

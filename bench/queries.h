@@ -27,7 +27,7 @@ void shaped_rows(query_file *rows, query_file *sizes, const char *shape, int rel
 uint64_t shaped_trials(const char *shape, int relations, int sites);
 
 /* Any query: any tree in any order, small amounts that tie or amounts at their limits, sizes at and beside full parcels,
- * closed lines, sites that may not join, indexes. */
+ * closed lines, sites that may not join, indexes, and half the time one or two homes for all. */
 void random_query(query_file *f);
 void random_rows(query_file *rows, query_file *sizes);
 

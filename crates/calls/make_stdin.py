@@ -7,12 +7,12 @@
 import sys
 
 sys.dont_write_bytecode = True
-from script import areas, checks, loads, rooms, rows, solves, states  # noqa: E402
+from script import areas, checks, indexes, loads, rooms, rows, solves, states  # noqa: E402
 from script.records import solve  # noqa: E402
 
 
 def script():
-    for group in states, areas, loads, rows, solves, checks, rooms:
+    for group in states, areas, loads, rows, solves, indexes, checks, rooms:
         yield from group.script()
     # an unknown record ends the run
     yield b"\x03", []

@@ -6,10 +6,13 @@ use reference::compare::program::{Answering, Feed, Program};
 use reference::encode::encode;
 use reference::generate::queries::{self, Extent};
 use reference::limits::LONGEST_FILE;
+use reference::method::Method;
 use reference::pinned;
 use reference::query::Query;
 use reference::random::Random;
+use reference::solve;
 use reference::text::{parse, print};
+use reference::units::Charge;
 
 fn example(name: &str) -> Query {
     let path = |ending| format!("{}/../examples/{name}.{ending}", env!("CARGO_MANIFEST_DIR"));
@@ -36,6 +39,8 @@ fn there_and_back() {
 fn the_examples() {
     assert_eq!(example("q"), pinned::q());
     assert_eq!(example("chain-of-five"), pinned::chain_of_five());
+    let two_indexes = solve::solve(&example("two-indexes"), Method::Rules);
+    assert_eq!(two_indexes.map(|plan| plan.cost), Some(Charge(9)));
     let star = example("star-of-nine");
     assert_eq!(star.subqueries().len(), 264);
     assert_eq!(encode(&star).len(), LONGEST_FILE);

@@ -8,7 +8,7 @@ typedef struct {
     size_t plan_length;
 } example;
 
-enum { EXAMPLES = 4 };
+enum { EXAMPLES = 5 };
 extern const example examples[EXAMPLES];
 
 /* Reads the query; the byte behind it is 0. Ends the process where the file has another length. */
