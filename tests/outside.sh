@@ -48,6 +48,8 @@ calls_stated() {
     cmp target/outside/stdout crates/calls/stdout
 }
 
+# They take none of the built programs, and longer than anything else here.
+beside "the reference's own tests" own_tests
 tests/prove.sh check plan calls
 tests/prove.sh staticlib fanchuki
 began=$SECONDS
@@ -58,10 +60,10 @@ stage "exit codes" tests/exits.sh
 stage "the stored cases of calls are the stated ones" calls_stated
 stage "the examples are packed from their texts" examples_packed
 stage "a draft's figures are shown by way of calls" draft_shown
-stage "the reference's own tests" own_tests
 stage "plan beside the reference" reference diff_plan target/bin/plan "$seed" ${files:+"$files"}
 stage "calls beside the reference" reference diff_calls target/bin/calls "$seed" ${lists:+"$lists"}
 stage "the C call beside the reference" over_the_archive diff_c "$seed" ${files:+"$files"}
 stage "a soak of the C call" over_the_archive soak 20000 2 "$seed"
 stage "planners that nearly work are told apart" reference tell_apart target/bin/plan "$seed" ${files:+"$files"}
+beside_ended
 echo "outside: ok ($SECONDS s)"

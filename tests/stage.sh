@@ -21,3 +21,19 @@ stage() {
     last=$(tail -n 1 "$log")
     echo "   ${last:-ok} ($((SECONDS - began)) s)"
 }
+
+# beside NAME COMMAND..   begins a stage that runs beside those after it; beside_ended waits for it, shows what it printed, and
+# ends the run where it failed. A run that ends before that waits for it too, so that nothing is left running.
+beside() {
+    mkdir -p target/outside
+    stage "$@" >target/outside/beside.txt 2>&1 &
+    beside_pid=$!
+    trap wait EXIT
+}
+
+beside_ended() {
+    local status=0
+    wait "$beside_pid" || status=$?
+    cat target/outside/beside.txt
+    [ "$status" -eq 0 ] || exit 1
+}
