@@ -7,8 +7,8 @@ use denote.Ref.{now}
 use Rattle.query.specs.declared.Query.{Query}
 use Rattle.query.specs.Query.{sitesOf}
 use Rattle.query.proofs.Choice.{pick-both}
-use Rattle.decoder.specs.Fields.{Read, value}
-use Rattle.decoder.specs.Fields as fields
+use Rattle.sections.specs.Fields.{Read, value}
+use Rattle.sections.specs.Fields as fields
 use Rattle.decoder.specs.Decode.{decode}
 use Rattle.decoder.specs.declared.Form.{Form}
 use Rattle.decoder.specs.declared.Form.the-variants as form

@@ -10,10 +10,10 @@ use Rattle.relations.specs.declared.Joins.{Joins}
 use Rattle.relations.proofs.Leads.{clash}
 use Rattle.query.specs.declared.Query.{Query}
 use Rattle.query.specs.Query.{relationsOf, sitesOf}
+use Rattle.sections.specs.Fields.{Read, value, number, countField, section}
+use Rattle.sections.specs.Sections.{joinsSection}
+use Rattle.sections.proofs.Gives.{field-cases}
 use Rattle.decoder.specs.declared.Form.{Form}
-use Rattle.decoder.specs.Fields.{Read, value, number, countField, section}
-use Rattle.decoder.specs.Decode.{joinsSection}
-use Rattle.decoder.proofs.Gives.{field-cases}
 use Rattle.files.specs.Length.{sectionLength}
 use Rattle.files.proofs.Local.{came}
 use Rattle.files.proofs.InOrder.{Sections}

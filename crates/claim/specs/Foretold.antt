@@ -9,8 +9,8 @@ use lib.ListN.{length, take, drop}
 use Rattle.relations.specs.Trees.{subqueries}
 use Rattle.query.specs.declared.Query.{Query}
 use Rattle.query.specs.Query.{relationsOf, sitesOf}
+use Rattle.sections.specs.Fields.{value}
 use Rattle.decoder.specs.declared.Form.{Form}
-use Rattle.decoder.specs.Fields.{value}
 use Rattle.decoder.specs.Decode.{decode}
 use Rattle.files.specs.Length.{sectionLength}
 use Rattle.tables.specs.Tables.{trials}

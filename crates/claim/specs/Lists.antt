@@ -8,8 +8,8 @@ use contract.Lifetimes.{Lfts}
 use Rattle.query.specs.declared.Query.{Query}
 use Rattle.query.specs.Choice.{pick}
 use Rattle.query.specs.Query.{sitesOf}
-use Rattle.decoder.specs.Fields.{Read, value}
-use Rattle.decoder.specs.Fields as fields
+use Rattle.sections.specs.Fields.{Read, value}
+use Rattle.sections.specs.Fields as fields
 use Rattle.decoder.specs.Decode.{decode}
 use Rattle.decoder.specs.declared.Form.the-variants as form
 use Rattle.room.specs.declared.RoomAnswer.{RoomAnswer}

@@ -10,13 +10,15 @@ use Rattle.relations.specs.Trees.{reaches, subqueries}
 use Rattle.query.specs.declared.Sites.{Sites}
 use Rattle.query.specs.declared.Relations.{Relations}
 use Rattle.query.specs.declared.Query.{Query}
+use Rattle.sections.specs.declared.sections.Outcome.{Outcome}
+use Rattle.sections.specs.declared.sections.Outcome.the-variants.{Whole, Refused}
+use Rattle.sections.specs.Fields.{Read, refused, value, andThen}
+use Rattle.sections.specs.Code.{readOf}
 use Rattle.decoder.specs.declared.Form.{Form}
-use Rattle.decoder.specs.declared.sections.Outcome.{Outcome}
-use Rattle.decoder.specs.declared.sections.Outcome.the-variants.{Whole, Refused}
 use Rattle.decoder.specs.declared.decoding.Decoded.{Decoded}
-use Rattle.decoder.specs.Fields.{Read, refused, value, andThen}
-use Rattle.decoder.specs.Decode.{sizesBy, afterDelivery, afterSizes, afterJoins}
-use Rattle.decoder.specs.Code.{readOf, outcomeFault, decodedOf}
+use Rattle.decoder.specs.Sizes.{sizesBy}
+use Rattle.decoder.specs.Decode.{afterDelivery, afterSizes, afterJoins}
+use Rattle.decoder.specs.Code.{outcomeFault, decodedOf}
 
 -- A section that was read whole hands on what is left; one that was refused ends the reading with its number.
 module _ {A : Type 0} (x : Read A) (next : A → List ℕ → Read Query) (o : Outcome) (a : A) (used : ℕ) (l : List ℕ) (e : readOf o a used l ≡ x) (d : Decoded) where
@@ -41,6 +43,10 @@ module _ (form : Form) (s : Sites) (a : Relations) (J : Joins) (l : List ℕ) (c
 
   pub reached : not b ≡ false → d ≡ decodedOf (andThen (sizesBy form J (J .count + 1) l) (afterSizes s a J)) → d ≡ decodedOf (afterJoins form s a J l)
   reached h g = g ∙ rw (test, not-false b h, c)
+
+-- The number of subqueries, counted over the joins, is that of the query.
+pub due-kept : (J : Joins) (n k : ℕ) → k ≡ subqueries J (J .count + 1) → J .count + 1 ≡ n → k ≡ subqueries J n
+due-kept J n k e c = e ∙ ap (subqueries J) c
 
 -- Nothing follows Delivery.
 module _ (q : Query) (l : List ℕ) where

@@ -8,15 +8,15 @@ use lib.Seq.{drop-drop}
 use Rattle.relations.specs.declared.Joins.{Joins}
 use Rattle.sizing.specs.Worked.{workedSizes}
 use Rattle.sizing.specs.Code.{Counts}
+use Rattle.sections.specs.declared.sections.Outcome.{Outcome}
+use Rattle.sections.specs.declared.sections.Outcome.the-variants.{Whole, Refused}
+use Rattle.sections.specs.Fields.{Read, refused, value}
+use Rattle.sections.specs.Code.{readOf}
+use Rattle.sections.proofs.Kept.{kept}
 use Rattle.decoder.specs.declared.Form.{Form}
 use Rattle.decoder.specs.declared.Form.the-variants as form
-use Rattle.decoder.specs.declared.sections.Outcome.{Outcome}
-use Rattle.decoder.specs.declared.sections.Outcome.the-variants.{Whole, Refused}
-use Rattle.decoder.specs.Fields.{Read, refused, value}
-use Rattle.decoder.specs.Decode.{sizesSection, countsSection, rowsSections, sizesBy}
-use Rattle.decoder.specs.Code.{readOf}
+use Rattle.decoder.specs.Sizes.{sizesSection, countsSection, rowsSections, sizesBy}
 use Rattle.decoder.proofs.RowRanges.{counts-in}
-use Rattle.decoder.proofs.Kept.{kept}
 
 -- A tree of m joins has m + 1 relations. The row counts are refused, or they are whole and the divisors are refused, or both are whole.
 module _ (J : Joins) (l rows : List ℕ) (o : Outcome) (used : ℕ) (e : readOf o rows used l ≡ countsSection (J .count + 1) l) where

@@ -10,12 +10,12 @@ use Rattle.query.specs.Query.{UpTo}
 use Rattle.query.proofs.Limits.{set-up-to, up-to-each}
 use Rattle.sizing.specs.Code.{Counts}
 use Rattle.sizing.proofs.Most.{worked-most}
+use Rattle.sections.specs.Fields.{fromOneTo}
+use Rattle.sections.proofs.Gives.{Has, gives-then, gives-section}
 use Rattle.decoder.specs.declared.Form.{Form}
 use Rattle.decoder.specs.declared.Form.the-variants as form
-use Rattle.decoder.specs.Fields.{fromOneTo}
-use Rattle.decoder.specs.Decode.{withNumber, countsSection, rowsSections, sizesBy}
-use Rattle.decoder.proofs.Gives.{Has, gives-then, gives-section}
-use Rattle.decoder.proofs.Ranges.{number-held, sizes-in}
+use Rattle.decoder.specs.Sizes.{withNumber, countsSection, rowsSections, sizesBy}
+use Rattle.decoder.proofs.SizeRanges.{number-held, sizes-in}
 
 -- A place stays from 1 on where numbers from 1 on are stored.
 set-from-one : (l : List ℕ) (i v j : ℕ) → 1 ≤ v → 1 ≤ getD l j 0 → 1 ≤ getD (set l i v) j 0

@@ -8,14 +8,14 @@ use lib.ListN.{drop, set, replicate}
 use Rattle.relations.specs.Code.{mostSets}
 use Rattle.relations.specs.declared.Joins.{Joins}
 use Rattle.relations.specs.Trees.{isSubquery, subqueries}
-use Rattle.decoder.specs.declared.fields.Field.{Field}
-use Rattle.decoder.specs.declared.fields.Field.the-variants.{Value, Refused}
-use Rattle.decoder.specs.Fields.{Read, refused, value, field, amountUpTo, items, storing}
-use Rattle.decoder.specs.Decode.{withNumber, sized, sizesSection}
-use Rattle.decoder.specs.Code.{fieldOf, faultOf}
-use Rattle.decoder.proofs.Reading.{field-value, count-cut}
-use Rattle.decoder.proofs.Loops.{items-on}
-use Rattle.decoder.proofs.SectionLaws.{number-refused, number-stored}
+use Rattle.sections.specs.declared.fields.Field.{Field}
+use Rattle.sections.specs.declared.fields.Field.the-variants.{Value, Refused}
+use Rattle.sections.specs.Fields.{Read, refused, value, field, amountUpTo, items, storing}
+use Rattle.sections.specs.Code.{fieldOf, faultOf}
+use Rattle.sections.proofs.Reading.{field-value, count-cut}
+use Rattle.sections.proofs.Loops.{items-on}
+use Rattle.decoder.specs.Sizes.{withNumber, sized, sizesSection}
+use Rattle.decoder.proofs.NumberLaws.{number-refused, number-stored}
 
 -- The loop's end is the number of sets.
 pub below-end : (S v n : ℕ) → S < v → v ≡ 2 ^ n → S < 2 ^ n

@@ -8,17 +8,19 @@ use lib.Dec.{eqb}
 use Rattle.relations.specs.Trees.{reaches}
 use Rattle.relations.proofs.Leads.{clash}
 use Rattle.query.specs.declared.Query.{Query}
-use Rattle.decoder.specs.declared.Form.{Form}
-use Rattle.decoder.specs.declared.decoding.Decoded.{Decoded}
-use Rattle.decoder.specs.declared.sections.Outcome.the-variants.{Whole}
-use Rattle.decoder.specs.Fields.{Read, refused, value}
-use Rattle.decoder.specs.Decode.{sitesSection, relationsSection, joinsSection, sizesBy, linesSection, deliverySection, decode}
-use Rattle.decoder.specs.Code.{decodedOf}
 use Rattle.query.specs.Query.{Valid, home}
 use Rattle.query.proofs.Choice.{pick-all}
+use Rattle.sections.specs.declared.sections.Outcome.the-variants.{Whole}
+use Rattle.sections.specs.Fields.{Read, refused, value}
+use Rattle.sections.specs.Sections.{sitesSection, relationsSection, joinsSection, linesSection, deliverySection}
+use Rattle.sections.proofs.Gives.{Has, gives-then}
+use Rattle.sections.proofs.Ranges.{sites-in, relations-in, joins-in, lines-in, delivery-in}
+use Rattle.decoder.specs.declared.Form.{Form}
+use Rattle.decoder.specs.declared.decoding.Decoded.{Decoded}
+use Rattle.decoder.specs.Sizes.{sizesBy}
+use Rattle.decoder.specs.Decode.{decode}
+use Rattle.decoder.specs.Code.{decodedOf}
 use Rattle.decoder.specs.Theorems.{DecodeValid}
-use Rattle.decoder.proofs.Gives.{Has, gives-then}
-use Rattle.decoder.proofs.Ranges.{sites-in, relations-in, joins-in, lines-in, delivery-in}
 use Rattle.decoder.proofs.RowRanges.{sizes-by-in}
 
 pub file-in : (f : Form) (file : List ℕ) → Has Valid (decode f file)

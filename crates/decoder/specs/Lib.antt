@@ -1,4 +1,4 @@
-pub mod Fields
+pub mod Sizes
 pub mod Decode
 pub mod Code
 pub mod Theorems

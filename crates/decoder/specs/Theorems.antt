@@ -4,8 +4,8 @@ use mathlib.Core.Path.{_≡_}
 use mathlib.Core.List.{List}
 use Rattle.query.specs.declared.Query.{Query}
 use Rattle.query.specs.Query.{Valid}
+use Rattle.sections.specs.Fields.{value, refused}
 use Rattle.decoder.specs.declared.Form.{Form}
-use Rattle.decoder.specs.Fields.{value, refused}
 use Rattle.decoder.specs.Decode.{decode}
 
 -- By either form, every decoded query keeps to the counts and ranges of rule 2.9, and its joins make a tree.

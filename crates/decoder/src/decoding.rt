@@ -1,13 +1,6 @@
 // The whole query file: its sections in reading order, the tree test after the last join, and nothing after Delivery.
 use crate::Form;
-use crate::fields::part_from;
-use crate::join_section::read_joins;
-use crate::line_section::read_lines;
 use crate::rows::read_by_form;
-use crate::sections::Outcome;
-use crate::sections::read_delivery;
-use crate::sections::read_relations;
-use crate::sections::read_sites;
 use query::Lines;
 use query::Query;
 use query::Relations;
@@ -18,12 +11,20 @@ use relations::SETS;
 use relations::count_subqueries;
 use relations::join_table;
 use relations::reaches;
+use sections::Outcome;
+use sections::part_from;
+use sections::read_delivery;
+use sections::read_joins;
+use sections::read_lines;
+use sections::read_relations;
+use sections::read_sites;
 ghost use Prim.Native.Nat.{_+_, _≤_};
 ghost use mathlib.Core.Path.{_≡_};
 ghost use Rattle.relations.specs.Trees.{Tree, subqueries};
 ghost use Rattle.relations.specs.Code.{Drawn};
-ghost use Rattle.decoder.specs.Fields.{refused, andThen};
-ghost use Rattle.decoder.specs.Decode.{sizesBy, afterLines, afterSizes, afterJoins, afterRelations, afterSites, decode};
+ghost use Rattle.sections.specs.Fields.{refused, andThen};
+ghost use Rattle.decoder.specs.Sizes.{sizesBy};
+ghost use Rattle.decoder.specs.Decode.{afterLines, afterSizes, afterJoins, afterRelations, afterSites, decode};
 ghost use Rattle.decoder.specs.Code.{outcomeFault, decodedOf};
 
 // A decoded file: the query and its number of subqueries, or a refusal and nothing else.

@@ -1,15 +1,15 @@
 // The sections Rows and Divisors, from which the sizes are worked out; and the sizes by the form of the file.
 use crate::Form;
-use crate::fields::Field;
-use crate::fields::count_field;
-use crate::fields::fault;
-use crate::fields::part_from;
-use crate::fields::read_field;
-use crate::sections::Ended;
-use crate::sections::Outcome;
 use crate::sizes::read_sizes;
 use relations::Joins;
 use relations::SETS;
+use sections::Ended;
+use sections::Field;
+use sections::Outcome;
+use sections::count_field;
+use sections::fault;
+use sections::part_from;
+use sections::read_field;
 use sizing::MOST_ROWS;
 use sizing::work_out;
 ghost use Prim.Native.Nat.{_+_, _≤_};
@@ -18,8 +18,8 @@ ghost use lib.ListN.{replicate};
 ghost use Rattle.relations.specs.Code.{mostSets};
 ghost use Rattle.relations.specs.Trees.{subqueries};
 ghost use Rattle.relations.specs.Table.{Tabled};
-ghost use Rattle.decoder.specs.Decode.{countsSection, rowsSections, sizesBy};
-ghost use Rattle.decoder.specs.Code.{readOf};
+ghost use Rattle.sections.specs.Code.{readOf};
+ghost use Rattle.decoder.specs.Sizes.{countsSection, rowsSections, sizesBy};
 
 // Rows or Divisors: the count that is due and that many numbers, into a list of ones.
 fn read_counts(part: &[u8], due: usize, counts: &mut [u32; 9]) -> Ended

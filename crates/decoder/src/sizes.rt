@@ -1,15 +1,15 @@
 // The section Sizes: an amount for each subquery, in ascending number.
-use crate::fields::Field;
-use crate::fields::amount_up_to;
-use crate::fields::fault;
-use crate::fields::part_from;
-use crate::fields::read_field;
-use crate::sections::Ended;
-use crate::sections::Outcome;
 use relations::Joins;
 use relations::SETS;
 use relations::is_connected;
 use relations::single;
+use sections::Ended;
+use sections::Field;
+use sections::Outcome;
+use sections::amount_up_to;
+use sections::fault;
+use sections::part_from;
+use sections::read_field;
 use sizing::MOST_SIZE;
 ghost use Prim.Native.Nat.{_+_};
 ghost use mathlib.Core.Path.{_≡_};
@@ -17,8 +17,8 @@ ghost use lib.ListN.{replicate};
 ghost use Rattle.relations.specs.Code.{mostSets};
 ghost use Rattle.relations.specs.Trees.{subqueries};
 ghost use Rattle.relations.specs.Table.{Tabled};
-ghost use Rattle.decoder.specs.Decode.{sizesSection};
-ghost use Rattle.decoder.specs.Code.{readOf};
+ghost use Rattle.sections.specs.Code.{readOf};
+ghost use Rattle.decoder.specs.Sizes.{sizesSection};
 
 // The sizes of the subqueries of a tree, which are due in number, by its table, into a list of zeros.
 pub(crate) fn read_sizes(

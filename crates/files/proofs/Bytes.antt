@@ -7,7 +7,7 @@ use mathlib.Core.List.{List, _++_}
 use lib.ListN.{length, length-append}
 use lib.Seq.{drop-at}
 use borrow.Author.Tests.{le-ltb, le-leb}
-use Rattle.decoder.specs.Fields.{value, number, field}
+use Rattle.sections.specs.Fields.{value, number, field}
 use Rattle.files.specs.Ordinary.{bytesOf}
 
 length-bytes : (w v : ℕ) → length (bytesOf w v) ≡ w

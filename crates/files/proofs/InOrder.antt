@@ -15,9 +15,10 @@ use Rattle.query.specs.declared.Lines.{Lines}
 use Rattle.query.specs.declared.Query.{Query}
 use Rattle.query.specs.Choice.{pick}
 use Rattle.query.specs.Query.{relationsOf, sitesOf}
+use Rattle.sections.specs.Fields.{Read, refused, value, andThen}
+use Rattle.sections.specs.Sections.{sitesSection, relationsSection, joinsSection, linesSection, deliverySection}
 use Rattle.decoder.specs.declared.Form.{Form}
-use Rattle.decoder.specs.Fields.{Read, refused, value, andThen}
-use Rattle.decoder.specs.Decode.{sitesSection, relationsSection, joinsSection, sizesBy, linesSection, deliverySection}
+use Rattle.decoder.specs.Sizes.{sizesBy}
 use Rattle.decoder.specs.Decode.{afterDelivery, afterLines, afterSizes, afterJoins, afterRelations, afterSites, decode}
 use Rattle.files.proofs.Local.{came}
 

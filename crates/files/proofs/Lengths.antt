@@ -10,8 +10,8 @@ use lib.ListN.{length, length-drop}
 use lib.Dec.{ltb, leb}
 use borrow.Author.Tests.{ltb-false}
 use Rattle.query.proofs.Choice.{pick-all}
-use Rattle.decoder.specs.Fields.{Read, refused, value, andThen, number, field, countField, items, storing, section}
-use Rattle.decoder.proofs.Gives.{Gives, gives-then, gives-so, gives-items, Held, field-held}
+use Rattle.sections.specs.Fields.{Read, refused, value, andThen, number, field, countField, items, storing, section}
+use Rattle.sections.proofs.Gives.{Gives, gives-then, gives-so, gives-items, Held, field-held}
 use Rattle.files.specs.Length.{sectionLength}
 
 -- Every reading by it takes as many bytes as its value says: a number for each value.

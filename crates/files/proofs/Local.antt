@@ -11,7 +11,7 @@ use lib.Dec.{ltb, leb}
 use borrow.Author.Tests.{ltb-false, le-ltb}
 use Rattle.relations.proofs.Leads.{clash}
 use Rattle.query.proofs.Choice.{pick-all}
-use Rattle.decoder.specs.Fields.{Read, refused, value, andThen, number, field, countField, items, storing, section}
+use Rattle.sections.specs.Fields.{Read, refused, value, andThen, number, field, countField, items, storing, section}
 
 pub record Splits {A : Type 0} (read : List ℕ → Read A) (l : List ℕ) (a : A) (r : List ℕ) : Type 0 where
   pub used : List ℕ

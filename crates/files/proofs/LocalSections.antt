@@ -2,9 +2,9 @@
 use Prim.Native.Nat.{ℕ, _-_}
 use Rattle.relations.specs.declared.Joins.{Joins}
 use Rattle.query.specs.Zeros.{noSites, noRelations, noJoins}
-use Rattle.decoder.specs.Fields.{fromOneTo}
-use Rattle.decoder.specs.Decode.{terms, two, withSite, sitesSection, withRelation, relationsSection, withJoin, joinsSection}
-use Rattle.decoder.specs.Decode.{withNumber, countsSection, rowsSections}
+use Rattle.sections.specs.Fields.{fromOneTo}
+use Rattle.sections.specs.Sections.{terms, two, withSite, sitesSection, withRelation, relationsSection, withJoin, joinsSection}
+use Rattle.decoder.specs.Sizes.{withNumber, countsSection, rowsSections}
 use Rattle.files.proofs.Local.{Local, field-local, value-local, then-local, section-local}
 
 terms-local : Local terms

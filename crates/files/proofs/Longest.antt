@@ -15,11 +15,13 @@ use Rattle.relations.proofs.SubqueriesMost.{subqueries-most}
 use Rattle.query.specs.declared.Query.{Query}
 use Rattle.query.specs.Query.{Valid, relationsOf, sitesOf}
 use Rattle.query.proofs.Choice.{pick-all}
+use Rattle.sections.specs.Fields.{refused}
+use Rattle.sections.specs.Sections.{sitesSection, relationsSection, joinsSection, linesSection, deliverySection}
+use Rattle.sections.proofs.Gives.{Gives}
 use Rattle.decoder.specs.declared.Form.{Form}
 use Rattle.decoder.specs.declared.Form.the-variants as form
-use Rattle.decoder.specs.Fields.{refused}
-use Rattle.decoder.specs.Decode.{sitesSection, relationsSection, joinsSection, sizesBy, linesSection, deliverySection, decode}
-use Rattle.decoder.proofs.Gives.{Gives}
+use Rattle.decoder.specs.Sizes.{sizesBy}
+use Rattle.decoder.specs.Decode.{decode}
 use Rattle.decoder.proofs.Valid.{decode-valid}
 use Rattle.files.specs.Length.{sizesLength, fileLength, longestFile}
 use Rattle.files.specs.Theorems.{DecodeLength, LongestFile}

@@ -12,10 +12,10 @@ use Rattle.relations.proofs.SubqueriesMost.{subqueries-most}
 use Rattle.query.specs.declared.Query.{Query}
 use Rattle.query.specs.Query.{Valid, relationsOf}
 use Rattle.sizing.proofs.Most.{SizesIn, worked-sizes-is}
+use Rattle.sections.specs.Fields.{value}
+use Rattle.sections.proofs.Gives.{Has, gives-then}
 use Rattle.decoder.specs.declared.Form.the-variants as form
-use Rattle.decoder.specs.Fields.{value}
-use Rattle.decoder.specs.Decode.{sizesSection, countsSection, rowsSections}
-use Rattle.decoder.proofs.Gives.{Has, gives-then}
+use Rattle.decoder.specs.Sizes.{sizesSection, countsSection, rowsSections}
 use Rattle.decoder.proofs.RowRanges.{counts-in}
 use Rattle.decoder.proofs.Valid.{decode-valid}
 use Rattle.files.specs.Length.{beforeSizes, rowsLength}

@@ -17,8 +17,8 @@ use Rattle.query.specs.declared.Query.{Query}
 use Rattle.query.specs.Query.{relationsOf, size, UpTo}
 use Rattle.query.proofs.Limits.{zeros-up-to}
 use Rattle.sizing.proofs.Most.{SizesIn}
-use Rattle.decoder.specs.Fields.{value, items, storing}
-use Rattle.decoder.specs.Decode.{sized, sizesSection}
+use Rattle.sections.specs.Fields.{value, items, storing}
+use Rattle.decoder.specs.Sizes.{sized, sizesSection}
 use Rattle.files.specs.Ordinary.{amounts, sizesBytes}
 use Rattle.files.proofs.Bytes.{field-bytes}
 

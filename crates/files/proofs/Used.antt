@@ -7,9 +7,9 @@ use mathlib.Core.List.{List, _++_}
 use lib.ListN.{length, length-append}
 use Rattle.query.specs.declared.Query.{Query}
 use Rattle.query.specs.Query.{relationsOf, sitesOf}
+use Rattle.sections.specs.Fields.{Read, value}
+use Rattle.sections.specs.Sections.{sitesSection, relationsSection, joinsSection}
 use Rattle.decoder.specs.declared.Form.{Form}
-use Rattle.decoder.specs.Fields.{Read, value}
-use Rattle.decoder.specs.Decode.{sitesSection, relationsSection, joinsSection}
 use Rattle.files.specs.Length.{sectionLength}
 use Rattle.files.proofs.Lengths.{Takes}
 use Rattle.files.proofs.SectionLengths.{sites-take, relations-take, joins-take}

@@ -4,9 +4,9 @@ use mathlib.Core.Path.{_≡_}
 use mathlib.Core.List.{List}
 use lib.ListN.{length}
 use Rattle.query.specs.declared.Query.{Query}
+use Rattle.sections.specs.Fields.{value}
 use Rattle.decoder.specs.declared.Form.{Form}
 use Rattle.decoder.specs.declared.Form.the-variants as form
-use Rattle.decoder.specs.Fields.{value}
 use Rattle.decoder.specs.Decode.{decode}
 use Rattle.files.specs.Length.{fileLength, longestFile}
 use Rattle.files.specs.Ordinary.{ordinary}

@@ -9,11 +9,11 @@ use native.Mathlib.Omega.{arith}
 use Rattle.relations.specs.Trees.{subqueries}
 use Rattle.query.specs.declared.Query.{Query}
 use Rattle.query.specs.Query.{relationsOf}
+use Rattle.sections.specs.declared.sections.Outcome.{Outcome}
+use Rattle.sections.specs.Fields.{Read, value}
+use Rattle.sections.specs.Fields as fields
 use Rattle.decoder.specs.declared.Form.{Form}
-use Rattle.decoder.specs.declared.sections.Outcome.{Outcome}
 use Rattle.decoder.specs.declared.decoding.Decoded.{Decoded}
-use Rattle.decoder.specs.Fields.{Read, value}
-use Rattle.decoder.specs.Fields as fields
 use Rattle.decoder.specs.Code.{decodedOf}
 use Rattle.decoder.specs.Decode.{decode}
 use Rattle.decoder.proofs.Valid.{decoded-valid}

@@ -4,8 +4,10 @@ use lib.Count.{ones, onesIn, trailingZeros}
 use Rattle.relations.specs.Sets.{bit, put}
 use Rattle.relations.specs.Growth.{inside, leads, step, grow}
 use Rattle.relations.specs.Trees.{isSubquery, countBelow, reaches, part}
-use Rattle.decoder.specs.Fields.{number, field, items, storing, section}
-use Rattle.decoder.specs.Decode.{terms, two, sitesSection, relationsSection, joinsSection, sized, sizesSection, line, sender, linesSection, deliverySection, countsSection, rowsSections, decode}
+use Rattle.sections.specs.Fields.{number, field, items, storing, section}
+use Rattle.sections.specs.Sections.{terms, two, sitesSection, relationsSection, joinsSection, line, sender, linesSection, deliverySection}
+use Rattle.decoder.specs.Sizes.{sized, sizesSection, countsSection, rowsSections}
+use Rattle.decoder.specs.Decode.{decode}
 use Rattle.files.specs.Ordinary.{bytesOf, amounts, sizesBytes, ordinary}
 use Rattle.sizing.specs.Worked.{lowestWhere, links, joinTo, mayJoinIn, next, takenAfter, joinedSize, sizeAfter, workedSize, sizesBelow, workedSizes}
 use Rattle.query.specs.Query.{home, index, mayJoin, joinFixed, joinRate, isOpen, lineFixed, lineRate, size}

@@ -6,8 +6,8 @@ use mathlib.Core.Option.{some}
 use Rattle.relations.specs.Trees.{subqueries}
 use Rattle.query.specs.declared.Query.{Query}
 use Rattle.query.specs.Query.{relationsOf}
-use Rattle.decoder.specs.Fields.{Read, value}
-use Rattle.decoder.specs.Fields as fields
+use Rattle.sections.specs.Fields.{Read, value}
+use Rattle.sections.specs.Fields as fields
 use Rattle.decoder.specs.Decode.{decode}
 use Rattle.decoder.specs.declared.Form.{Form}
 use Rattle.decoder.specs.declared.Form.the-variants as form

@@ -6,7 +6,7 @@ use mathlib.Core.List.{List, [], _∷_, _++_}
 use mathlib.Core.Option.{none, some}
 use lib.ListN.{length, take, drop, set, replicate}
 use Rattle.query.specs.declared.Query.{Query}
-use Rattle.decoder.specs.Fields.{value}
+use Rattle.sections.specs.Fields.{value}
 use Rattle.decoder.specs.declared.Form.the-variants as form
 use Rattle.decoder.specs.Decode.{decode}
 use Rattle.files.specs.Ordinary.{ordinary}

@@ -3,7 +3,7 @@ use crate::AfterLoad;
 use crate::LoadAnswer;
 use crate::Planner;
 use decoder::Form;
-use decoder::Outcome;
+use sections::Outcome;
 ghost use mathlib.Core.Path.{_≡_};
 ghost use Rattle.planner.specs.Load.{loadBy, load, loadRows};
 ghost use Rattle.planner.specs.Contracts.{stateOf, doneOf, ofLoad, Sound};

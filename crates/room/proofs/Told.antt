@@ -10,11 +10,11 @@ use Rattle.relations.specs.declared.Joins.{Joins}
 use Rattle.relations.specs.Trees.{reaches}
 use Rattle.relations.specs.Code.{Drawn}
 use Rattle.relations.proofs.Leads.{both-true}
-use Rattle.decoder.specs.declared.sections.Outcome.{Outcome}
-use Rattle.decoder.specs.declared.sections.Outcome.the-variants as outcome
-use Rattle.decoder.specs.Decode.{joinsSection}
-use Rattle.decoder.specs.Code.{readOf}
-use Rattle.decoder.proofs.Kept.{joins-kept}
+use Rattle.sections.specs.declared.sections.Outcome.{Outcome}
+use Rattle.sections.specs.declared.sections.Outcome.the-variants as outcome
+use Rattle.sections.specs.Sections.{joinsSection}
+use Rattle.sections.specs.Code.{readOf}
+use Rattle.sections.proofs.Kept.{joins-kept}
 use Rattle.room.specs.Room.{Answer, refused, figuresOf, inLimits, room}
 
 module _ (n s : ℕ) where

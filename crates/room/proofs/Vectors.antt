@@ -5,8 +5,8 @@ use lib.Count.{ones, onesIn, trailingZeros}
 use Rattle.relations.specs.Sets.{bit, put}
 use Rattle.relations.specs.Growth.{inside, leads, step, grow}
 use Rattle.relations.specs.Trees.{isSubquery, countBelow, reaches}
-use Rattle.decoder.specs.Fields.{number, field, items, storing, section}
-use Rattle.decoder.specs.Decode.{two, joinsSection}
+use Rattle.sections.specs.Fields.{number, field, items, storing, section}
+use Rattle.sections.specs.Sections.{two, joinsSection}
 use Rattle.tables.specs.Tables.{joinsBelow}
 use Rattle.room.specs.Room.{inLimits, room}
 use Rattle.room.specs.Vectors.{vectors, answered, everyAnswered}

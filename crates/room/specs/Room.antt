@@ -7,9 +7,9 @@ use lib.Dec.{eqb, leb}
 use Rattle.relations.specs.declared.Joins.{Joins}
 use Rattle.relations.specs.Trees.{subqueries, reaches}
 use Rattle.query.specs.Choice.{pick}
-use Rattle.decoder.specs.Fields.{Read, value}
-use Rattle.decoder.specs.Fields as fields
-use Rattle.decoder.specs.Decode.{joinsSection}
+use Rattle.sections.specs.Fields.{Read, value}
+use Rattle.sections.specs.Fields as fields
+use Rattle.sections.specs.Sections.{joinsSection}
 use Rattle.tables.specs.Tables.{trialsOf}
 
 -- What room answers: the number of subqueries, the cells and the trials.

@@ -1,9 +1,9 @@
 // The call: judges n, s and the number of bytes, reads the pairs as they stand in a file, and tells the figures of the tree that they make.
 use crate::RoomAnswer;
 use crate::counting::figures;
-use decoder::Outcome;
-use decoder::read_pairs;
 use relations::reaches;
+use sections::Outcome;
+use sections::read_pairs;
 ghost use mathlib.Core.Path.{_≡_};
 ghost use Rattle.room.specs.Room.{inLimits, room};
 ghost use Rattle.room.specs.Code.{ofRoom};

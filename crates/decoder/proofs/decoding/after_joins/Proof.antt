@@ -1,6 +1,6 @@
 -- After the last join the tree test comes first.
 use borrow.Author.Needs.{needs}
-use Rattle.decoder.proofs.Kept.{tree-kept}
+use Rattle.sections.proofs.Kept.{tree-kept}
 use Rattle.decoder.proofs.FileLaws.{not-reached, reached}
 use Rattle.decoder.proofs.decoding.after_joins.Statement.{statement}
 use Rattle.decoder.proofs.decoding.after_joins.Tie as tie

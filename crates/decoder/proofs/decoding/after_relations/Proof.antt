@@ -1,6 +1,6 @@
 -- After the relations the reading goes on with the joins, or ends with their refusal.
 use borrow.Author.Needs.{needs}
-use Rattle.decoder.proofs.Kept.{joins-kept}
+use Rattle.sections.proofs.Kept.{joins-kept}
 use Rattle.decoder.proofs.FileLaws.{goes-on, ends}
 use Rattle.decoder.proofs.decoding.after_relations.Statement.{statement}
 use Rattle.decoder.proofs.decoding.after_relations.Tie as tie

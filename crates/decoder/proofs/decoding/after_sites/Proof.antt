@@ -1,7 +1,7 @@
 -- After the sites the reading goes on with the relations, or ends with their refusal.
 use borrow.Author.Needs.{needs}
-use Rattle.decoder.proofs.Kept.{kept}
-use Rattle.decoder.proofs.Ranges.{RelationsIn, relations-in}
+use Rattle.sections.proofs.Kept.{kept}
+use Rattle.sections.proofs.Ranges.{RelationsIn, relations-in}
 use Rattle.decoder.proofs.FileLaws.{goes-on, ends}
 use Rattle.decoder.proofs.decoding.after_sites.Statement.{statement}
 use Rattle.decoder.proofs.decoding.after_sites.Tie as tie

@@ -1,7 +1,6 @@
 -- The reading goes on with the sizes of the tree, or ends with their refusal.
 use borrow.Author.Needs.{needs}
-use Rattle.decoder.proofs.Kept.{due-kept}
-use Rattle.decoder.proofs.FileLaws.{goes-on, ends}
+use Rattle.decoder.proofs.FileLaws.{due-kept, goes-on, ends}
 use Rattle.decoder.proofs.decoding.after_tree.Statement.{statement}
 use Rattle.decoder.proofs.decoding.after_tree.Tie as tie
 

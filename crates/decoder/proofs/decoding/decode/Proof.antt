@@ -1,8 +1,8 @@
 -- `decode` begins with the sites: the reading goes on from where they end, or ends with their refusal.
 use borrow.Author.Needs.{needs}
+use Rattle.sections.proofs.Kept.{kept}
+use Rattle.sections.proofs.Ranges.{SitesIn, sites-in}
 use Rattle.decoder.specs.Decode.{decode}
-use Rattle.decoder.proofs.Kept.{kept}
-use Rattle.decoder.proofs.Ranges.{SitesIn, sites-in}
 use Rattle.decoder.proofs.FileLaws.{goes-on, ends}
 use Rattle.decoder.proofs.decoding.decode.Statement.{statement}
 use Rattle.decoder.proofs.decoding.decode.Tie as tie

@@ -3,10 +3,11 @@ use Prim.Native.Nat.{_+_, _-_, _*_, _≤_}
 use mathlib.Core.Path.{_≡_}
 use lib.ListN.{drop}
 use borrow.Author.Needs.{needs}
-use Rattle.decoder.specs.Fields.{fromOneTo, items, storing}
-use Rattle.decoder.specs.Decode.{withNumber, countsSection}
-use Rattle.decoder.proofs.Reading.{field-fits}
-use Rattle.decoder.proofs.SectionLaws.{count-refused, count-stored, of-section}
+use Rattle.sections.specs.Fields.{fromOneTo, items, storing}
+use Rattle.sections.proofs.Reading.{field-fits}
+use Rattle.sections.proofs.SectionLaws.{of-section}
+use Rattle.decoder.specs.Sizes.{withNumber, countsSection}
+use Rattle.decoder.proofs.NumberLaws.{count-refused, count-stored}
 use Rattle.decoder.proofs.rows.read_counts.Statement.{statement}
 use Rattle.decoder.proofs.rows.read_counts.Tie as tie
 

@@ -7,11 +7,11 @@ use Rattle.relations.specs.Code.{mostSets}
 use Rattle.relations.specs.Table.{Tabled}
 use Rattle.relations.proofs.Turns.{few-sets}
 use Rattle.relations.proofs.Entries.{tested}
-use Rattle.decoder.specs.Fields.{items}
-use Rattle.decoder.specs.Decode.{sized, sizesSection}
-use Rattle.decoder.proofs.Loops.{items-done}
+use Rattle.sections.specs.Fields.{items}
+use Rattle.sections.proofs.Loops.{items-done}
+use Rattle.sections.proofs.Reading.{field-fits}
+use Rattle.decoder.specs.Sizes.{sized, sizesSection}
 use Rattle.decoder.proofs.SizeLaws.{sizes-cut, sizes-start, size-none, size-no, size-on, below-end, past-end}
-use Rattle.decoder.proofs.Reading.{field-fits}
 use Rattle.decoder.proofs.sizes.read_sizes.Statement.{statement}
 use Rattle.decoder.proofs.sizes.read_sizes.Tie as tie
 

@@ -6,7 +6,7 @@ use mathlib.Core.Bool.{true}
 use borrow.Author.Needs.{needs}
 use borrow.Author.Tests.{not-false}
 use Rattle.relations.specs.Code.{Drawn}
-use Rattle.decoder.proofs.Kept.{tree-kept}
+use Rattle.sections.proofs.Kept.{tree-kept}
 use Rattle.room.specs.Room.{inLimits}
 use Rattle.room.proofs.Told.{out-of-limits, within-limits, other-length, pair-refused, joins-drawn, not-reached, reached}
 use Rattle.room.proofs.telling.room.Statement.{statement}

@@ -1,0 +1,10 @@
+pub mod Gives
+pub mod Ranges
+pub mod Parts
+pub mod Reading
+pub mod ItemLaws
+pub mod Loops
+pub mod SectionLaws
+pub mod Pairs
+pub mod LineLaws
+pub mod Kept
