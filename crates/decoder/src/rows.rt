@@ -17,7 +17,7 @@ ghost use mathlib.Core.Path.{_≡_};
 ghost use lib.ListN.{replicate};
 ghost use Rattle.relations.specs.Code.{mostSets};
 ghost use Rattle.relations.specs.Trees.{subqueries};
-ghost use Rattle.relations.specs.Table.{Tabled};
+ghost use Rattle.subqueries.specs.Table.{Tabled};
 ghost use Rattle.sections.specs.Code.{readOf};
 ghost use Rattle.decoder.specs.Sizes.{countsSection, rowsSections, sizesBy};
 

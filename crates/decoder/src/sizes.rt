@@ -1,7 +1,6 @@
 // The section Sizes: an amount for each subquery, in ascending number.
 use relations::Joins;
 use relations::SETS;
-use relations::is_connected;
 use relations::single;
 use sections::Ended;
 use sections::Field;
@@ -11,12 +10,13 @@ use sections::fault;
 use sections::part_from;
 use sections::read_field;
 use sizing::MOST_SIZE;
+use subqueries::is_connected;
 ghost use Prim.Native.Nat.{_+_};
 ghost use mathlib.Core.Path.{_≡_};
 ghost use lib.ListN.{replicate};
 ghost use Rattle.relations.specs.Code.{mostSets};
 ghost use Rattle.relations.specs.Trees.{subqueries};
-ghost use Rattle.relations.specs.Table.{Tabled};
+ghost use Rattle.subqueries.specs.Table.{Tabled};
 ghost use Rattle.sections.specs.Code.{readOf};
 ghost use Rattle.decoder.specs.Sizes.{sizesSection};
 

@@ -10,8 +10,7 @@ use lib.Dec.{eqb}
 use borrow.Author.Tests.{eq-eqb, ne-eqb, eqb-true}
 use Rattle.relations.specs.Sets.{bit}
 use Rattle.relations.specs.Growth.{inside}
-use Rattle.relations.specs.Trees.{Subquery}
-use Rattle.relations.specs.Table.{joinBits}
+use Rattle.relations.specs.Trees.{Subquery, joinBits}
 use Rattle.relations.proofs.Bits.{bit-pow, pow-cases}
 use Rattle.relations.proofs.Connected.{subquery-range}
 use Rattle.relations.proofs.Counts.{one-some, lowest-below}

@@ -9,10 +9,9 @@ use lib.Dec.{eqb}
 use borrow.Author.Tests.{eqb-true}
 use Rattle.relations.specs.Sets.{bit}
 use Rattle.relations.specs.Growth.{inside}
-use Rattle.relations.specs.Trees.{Subquery}
+use Rattle.relations.specs.Trees.{Subquery, joinBits}
 use Rattle.relations.specs.Code.{orNone}
-use Rattle.relations.specs.Table.{joinBits}
-use Rattle.relations.proofs.Entries.{bits-inside, join-of-bit}
+use Rattle.relations.proofs.JoinBits.{bits-inside, join-of-bit}
 use Rattle.query.specs.declared.Query.{Query}
 use Rattle.query.specs.Choice.{pick}
 use Rattle.query.specs.Cost.{Cost, none, some, both, plus}

@@ -7,10 +7,9 @@ use lib.ListN.{length, getD}
 use lib.Bits.{bitAnd}
 use lib.Pow.{pow-mono}
 use Rattle.relations.specs.Growth.{inside}
-use Rattle.relations.specs.Trees.{Subquery}
-use Rattle.relations.specs.Table.{joinBits}
+use Rattle.relations.specs.Trees.{Subquery, joinBits}
 use Rattle.relations.proofs.Connected.{subquery-range}
-use Rattle.relations.proofs.Entries.{bits-below, join-of-bit}
+use Rattle.relations.proofs.JoinBits.{bits-below, join-of-bit}
 use Rattle.relations.proofs.Splits.{part-by-side, grown-split, split-smaller}
 use Rattle.query.specs.declared.Query.{Query}
 use Rattle.query.specs.Query.{relationsOf, sitesOf}

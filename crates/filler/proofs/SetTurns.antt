@@ -10,11 +10,11 @@ use lib.ListN.{length, getD, set}
 use lib.Pow.{pow-pos, pow-mono}
 use Rattle.relations.specs.Code.{mostSets}
 use Rattle.relations.specs.Sets.{all}
-use Rattle.relations.specs.Trees.{isSubquery, Subquery}
-use Rattle.relations.specs.Table.{joinBits, isConnected}
+use Rattle.relations.specs.Trees.{isSubquery, Subquery, joinBits}
 use Rattle.relations.proofs.Bits.{all-below}
-use Rattle.relations.proofs.Entries.{tested, entry-joins}
 use Rattle.relations.proofs.Subqueries.{subqueries-law}
+use Rattle.subqueries.specs.Table.{isConnected}
+use Rattle.subqueries.proofs.Entries.{tested, entry-joins}
 use Rattle.query.specs.declared.Query.{Query}
 use Rattle.query.specs.Query.{relationsOf}
 use Rattle.rules.specs.Combine.{Combines}

@@ -11,13 +11,12 @@ use borrow.Author.Tests.{eq-eqb, ne-eqb, eqb-true, eqb-false}
 use Rattle.relations.specs.declared.Joins.{Joins}
 use Rattle.relations.specs.Sets.{bit}
 use Rattle.relations.specs.Growth.{inside}
-use Rattle.relations.specs.Trees.{Subquery, Tree, joinsIn}
+use Rattle.relations.specs.Trees.{Subquery, Tree, joinsIn, joinBits}
 use Rattle.relations.specs.Code.{orNone}
-use Rattle.relations.specs.Table.{joinBits}
 use Rattle.relations.proofs.Bits.{bit-none}
 use Rattle.relations.proofs.Connected.{subquery-range}
 use Rattle.relations.proofs.Counts.{lowest-below, ones-pos}
-use Rattle.relations.proofs.Entries.{joins-next, bits-next, bits-inside}
+use Rattle.relations.proofs.JoinBits.{joins-next, bits-next, bits-inside}
 use Rattle.relations.proofs.JoinCounts.{joins-count}
 use Rattle.relations.proofs.Subqueries.{subqueries-law}
 use Rattle.query.specs.declared.Query.{Query}

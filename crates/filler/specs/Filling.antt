@@ -6,7 +6,7 @@ use lib.ListN.{length, getD, drop}
 use Rattle.relations.specs.Code.{mostSets}
 use Rattle.relations.specs.Sets.{all}
 use Rattle.relations.specs.Trees.{Subquery}
-use Rattle.relations.specs.Table.{Tabled}
+use Rattle.subqueries.specs.Table.{Tabled}
 use Rattle.query.specs.declared.Query.{Query}
 use Rattle.query.specs.Query.{relationsOf, sitesOf, Valid}
 use Rattle.tables.specs.Tables.{delivered, joinsBelow}

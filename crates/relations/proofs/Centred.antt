@@ -14,16 +14,15 @@ use lib.Pow.{pow-pos}
 use Rattle.relations.specs.declared.Joins.{Joins}
 use Rattle.relations.specs.Sets.{bit, Sub, all}
 use Rattle.relations.specs.Growth.{first, second, along}
-use Rattle.relations.specs.Trees.{Subquery, joinsIn}
+use Rattle.relations.specs.Trees.{Subquery, joinsIn, joinBits}
 use Rattle.relations.specs.Stars.{Star}
 use Rattle.relations.specs.Code.{orNone}
-use Rattle.relations.specs.Table.{joinBits}
 use Rattle.relations.proofs.Bits.{bit-le, bit-pow, bit-high, bit-all, le-of-sub, sub-single, below-of-sub, all-below}
 use Rattle.relations.proofs.Counts.{ones-sum, ones-mono, ones-pow, sub-full}
 use Rattle.relations.proofs.Leads.{along-has, along-within, along-first, along-second, along-few, ends-inside}
 use Rattle.relations.proofs.JoinCounts.{joins-fewer}
 use Rattle.relations.proofs.SubqueryCount.{subquery-of-count}
-use Rattle.relations.proofs.Entries.{bits-inside}
+use Rattle.relations.proofs.JoinBits.{bits-inside}
 use Rattle.relations.proofs.Sums.{sum}
 use Rattle.relations.proofs.Weights.{bits-count}
 

@@ -1,8 +1,5 @@
 pub mod Listed
 pub mod Turns
-pub mod Upper
-pub mod Entries
-pub mod Doubling
 pub mod Following
 pub mod Drawing
 pub mod Bits
@@ -16,6 +13,7 @@ pub mod Trees
 pub mod Halves
 pub mod Splits
 pub mod Unions
+pub mod JoinBits
 pub mod JoinCounts
 pub mod SubqueryCount
 pub mod Subqueries

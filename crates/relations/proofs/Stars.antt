@@ -15,10 +15,9 @@ use lib.Pow.{pow-lt}
 use Rattle.relations.specs.declared.Joins.{Joins}
 use Rattle.relations.specs.Sets.{bit, Sub, all, lowest}
 use Rattle.relations.specs.Growth.{first, second, grow, Closed}
-use Rattle.relations.specs.Trees.{reaches}
+use Rattle.relations.specs.Trees.{reaches, joinBits}
 use Rattle.relations.specs.Stars.{Star, upFrom, starOf}
 use Rattle.relations.specs.Code.{orNone}
-use Rattle.relations.specs.Table.{joinBits}
 use Rattle.relations.proofs.Bits.{bit-le, bit-pow, bit-pow-other, bit-all, bit-high, sub-single, sub-antisym, all-below}
 use Rattle.relations.proofs.Counts.{ones-pow, lowest-pow}
 use Rattle.relations.proofs.Growth.{grow-has, grow-within, grow-closed}

@@ -13,16 +13,15 @@ use lib.Pow.{pow-pos}
 use Rattle.relations.specs.declared.Joins.{Joins}
 use Rattle.relations.specs.Sets.{bit, Sub, lowest}
 use Rattle.relations.specs.Growth.{first, inside}
-use Rattle.relations.specs.Trees.{isSubquery, Subquery, joinsIn, Tree}
+use Rattle.relations.specs.Trees.{isSubquery, Subquery, joinsIn, Tree, joinBits}
 use Rattle.relations.specs.Code.{orNone}
-use Rattle.relations.specs.Table.{joinBits}
 use Rattle.relations.proofs.Bits.{sub-antisym}
 use Rattle.relations.proofs.Counts.{ones-zero, ones-pos, ones-more, one-some, lowest-below, single-of-ones}
 use Rattle.relations.proofs.Leads.{inside-ends, ends-inside}
 use Rattle.relations.proofs.Connected.{conn-of, subquery-range}
 use Rattle.relations.proofs.JoinCounts.{joins-count}
 use Rattle.relations.proofs.Subqueries.{subqueries-law}
-use Rattle.relations.proofs.Entries.{joins-next, bits-next, or-none-le, or-none-some, bits-below, bits-high, bits-inside, join-of-bit}
+use Rattle.relations.proofs.JoinBits.{joins-next, bits-next, or-none-le, or-none-some, bits-below, bits-high, bits-inside, join-of-bit}
 use Rattle.relations.proofs.Sums.{sum, sum-add, besides, besides-other, sum-besides, sum-into}
 
 -- What a set weighs where a subquery of k joins weighs w k, and a set that is no subquery nothing.

@@ -1,5 +1,5 @@
 -- What the contracts of the code cite besides the definitions: what each function asks of its joins, and what it answers.
-use Prim.Native.Nat.{ℕ, suc, _+_, _^_, _≤_, _<_}
+use Prim.Native.Nat.{ℕ, _+_, _^_, _≤_, _<_}
 use mathlib.Core.Path.{_≡_}
 use mathlib.Core.Bool.{Bool, true, false, not, _&&_}
 use mathlib.Core.List.{List}
@@ -63,11 +63,6 @@ pub record Growable (J : Joins) (l : List ℕ) (m S A : ℕ) : Type 0 where
   pub ends : EndsOf J l (J .count)
   pub in-all : S < 2 ^ (J .count + 1)
   pub taken-in : Sub A S
-
--- One more where the test holds.
-abbrev pub tally : Bool → ℕ → ℕ
-tally true n = suc n
-tally false n = n
 
 -- n where the test holds, else 0.
 abbrev pub orNone : Bool → ℕ → ℕ

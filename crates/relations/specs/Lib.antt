@@ -5,4 +5,3 @@ pub mod Stars
 pub mod Theorems
 pub mod Splits
 pub mod Code
-pub mod Table

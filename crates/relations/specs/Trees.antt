@@ -49,3 +49,8 @@ side J n e = part J n (all n) e
 unfoldable pub joinsIn : Joins → ℕ → ℕ → ℕ
 joinsIn J S zero = 0
 joinsIn J S (suc m) = elim (inside J S m) [ true ↦ suc (joinsIn J S m) | false ↦ joinsIn J S m ]
+
+-- The joins below m that lie in S, as a set of joins: the sum of 2^e over them.
+unfoldable pub joinBits : Joins → ℕ → ℕ → ℕ
+joinBits J S zero = 0
+joinBits J S (suc m) = elim (inside J S m) [ true ↦ joinBits J S m + 2 ^ m | false ↦ joinBits J S m ]

@@ -1,12 +1,10 @@
 // Sets of relations, the joins between them, growth along joins, and the two parts of a subquery.
 // In reading order: member (sets), masks (the joins as sets), growing (growth along them), tree (the tree test and the sides of
-// the joins), splitting (the two parts), table (what every set holds), subquery (how many sets are subqueries).
+// the joins), splitting (the two parts).
 mod growing;
 mod masks;
 mod member;
 mod splitting;
-mod subquery;
-mod table;
 mod tree;
 mod widening;
 
@@ -17,10 +15,6 @@ pub use member::whole;
 pub use member::within;
 pub use splitting::Parts;
 pub use splitting::split;
-pub use subquery::count_subqueries;
-pub use table::is_connected;
-pub use table::join_table;
-pub use table::joins_in;
 pub use tree::reaches;
 pub use tree::sides;
 pub use widening::wide;

@@ -11,11 +11,11 @@ use lib.Pow.{pow-mono}
 use Rattle.relations.specs.Code.{mostSets}
 use Rattle.relations.specs.declared.Joins.{Joins}
 use Rattle.relations.specs.Trees.{Tree, isSubquery, subqueries}
-use Rattle.relations.specs.Table.{Tabled, isConnected}
 use Rattle.relations.proofs.Counts.{ones-pos}
-use Rattle.relations.proofs.Entries.{tested}
 use Rattle.relations.proofs.Turns.{few-sets}
 use Rattle.relations.proofs.SubqueriesMost.{subqueries-most}
+use Rattle.subqueries.specs.Table.{Tabled, isConnected}
+use Rattle.subqueries.proofs.Entries.{tested}
 use Rattle.tables.specs.Tables.{joinsBelow}
 use Rattle.tables.proofs.Trials.{joins-next, joins-below}
 use Rattle.room.specs.Room.{figures, figuresOf}

@@ -2,14 +2,14 @@
 use crate::RoomAnswer;
 use relations::Joins;
 use relations::SETS;
-use relations::count_subqueries;
-use relations::is_connected;
-use relations::join_table;
 use relations::single;
+use subqueries::count_subqueries;
+use subqueries::is_connected;
+use subqueries::join_table;
 ghost use Prim.Native.Nat.{_+_, _^_, _≤_};
 ghost use mathlib.Core.Path.{_≡_};
 ghost use Rattle.relations.specs.Trees.{Tree};
-ghost use Rattle.relations.specs.Table.{Tabled};
+ghost use Rattle.subqueries.specs.Table.{Tabled};
 ghost use Rattle.tables.specs.Tables.{joinsBelow};
 ghost use Rattle.room.specs.Room.{figuresOf};
 ghost use Rattle.room.specs.Code.{ofRoom};

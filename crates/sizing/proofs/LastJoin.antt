@@ -9,10 +9,9 @@ use Rattle.relations.specs.Code.{orNone}
 use Rattle.relations.specs.declared.Joins.{Joins}
 use Rattle.relations.specs.Sets.{bit}
 use Rattle.relations.specs.Growth.{first, second, inside}
-use Rattle.relations.specs.Trees.{Tree, Subquery, side}
-use Rattle.relations.specs.Table.{joinBits}
+use Rattle.relations.specs.Trees.{Tree, Subquery, side, joinBits}
 use Rattle.relations.proofs.Bits.{ext, bit-le, bit-add, bit-pow, bit-pow-other, single-apart, pow-cases, bit-more, bit-add}
-use Rattle.relations.proofs.Entries.{bits-inside, bits-high}
+use Rattle.relations.proofs.JoinBits.{bits-inside, bits-high}
 use Rattle.relations.proofs.Leads.{inside-ends, ends-inside}
 use Rattle.relations.proofs.Trees.{side-first, side-second}
 use Rattle.sizing.specs.Worked.{joinTo}

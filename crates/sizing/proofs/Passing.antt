@@ -8,9 +8,9 @@ use lib.ListN.{length, getD, replicate, length-replicate}
 use lib.Pow.{pow-pos, pow-mono}
 use Rattle.relations.specs.Code.{Drawn, Listed, mostSets}
 use Rattle.relations.specs.declared.Joins.{Joins}
-use Rattle.relations.specs.Table.{Tabled, isConnected}
 use Rattle.relations.specs.Trees.{isSubquery}
-use Rattle.relations.proofs.Entries.{tested}
+use Rattle.subqueries.specs.Table.{Tabled, isConnected}
+use Rattle.subqueries.proofs.Entries.{tested}
 use Rattle.query.proofs.Limits.{zeros-up-to}
 use Rattle.sizing.specs.Worked.{workedSizes}
 use Rattle.sizing.specs.Code.{Counts, neighbours, Lists, Long, Begun, Extended, Startable, Extendable}

@@ -13,12 +13,11 @@ use mir.Syntax.{w64}
 use mir.Val.{Fits}
 use Rattle.relations.specs.Code.{mostSets}
 use Rattle.relations.specs.declared.Joins.{Joins}
-use Rattle.relations.specs.Trees.{Subquery}
-use Rattle.relations.specs.Table.{joinBits}
+use Rattle.relations.specs.Trees.{Subquery, joinBits}
 use Rattle.relations.proofs.Counts.{lowest-pow}
 use Rattle.relations.proofs.Connected.{subquery-range}
-use Rattle.relations.proofs.Entries.{entry-joins}
 use Rattle.relations.proofs.Walks.{From, from-first, none-from, lowest-whole, none-between, one-within, one-less, from-next}
+use Rattle.subqueries.proofs.Entries.{entry-joins}
 use Rattle.sizing.specs.Worked.{joinTo, mostSize, joinedSize, workedSize}
 use Rattle.sizing.specs.Code.{above, Waits, Waiting, Lists, Long, Right, Same, Extended, Extendable}
 use Rattle.sizing.proofs.Products.{worked-upto}

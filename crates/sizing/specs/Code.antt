@@ -13,7 +13,7 @@ use Rattle.relations.specs.Code.{Listed, mostSets, endsOf, orNone}
 use Rattle.relations.specs.declared.Joins.{Joins}
 use Rattle.relations.specs.Sets.{bit, all, lowest}
 use Rattle.relations.specs.Trees.{Subquery, Tree}
-use Rattle.relations.specs.Table.{TableOf}
+use Rattle.subqueries.specs.Table.{TableOf}
 use Rattle.query.specs.Query.{UpTo}
 use Rattle.sizing.specs.Worked.{links, next, takenAfter, workedSize}
 

@@ -8,8 +8,8 @@ use lib.ListN.{length, drop}
 use lib.Pow.{pow-mono}
 use Rattle.relations.specs.Sets.{all}
 use Rattle.relations.specs.Code.{mostSets}
-use Rattle.relations.specs.Table.{TableOf}
 use Rattle.relations.proofs.Subqueries.{subqueries-law}
+use Rattle.subqueries.specs.Table.{TableOf}
 use Rattle.query.specs.declared.Query.{Query}
 use Rattle.query.specs.Query.{Valid, relationsOf, sitesOf}
 use Rattle.query.specs.Cost.{Cost, none, some}

@@ -7,10 +7,9 @@ use mathlib.Core.Bool.{Bool, true, false}
 use lib.Count.{ones}
 use borrow.Author.Tests.{ne-eqb}
 use Rattle.relations.specs.Growth.{inside}
-use Rattle.relations.specs.Trees.{Subquery}
+use Rattle.relations.specs.Trees.{Subquery, joinBits}
 use Rattle.relations.specs.Code.{orNone}
-use Rattle.relations.specs.Table.{joinBits}
-use Rattle.relations.proofs.Entries.{bits-next}
+use Rattle.relations.proofs.JoinBits.{bits-next}
 use Rattle.relations.proofs.Turns.{ends-in}
 use Rattle.query.specs.declared.Query.{Query}
 use Rattle.query.specs.Choice.{pick}

@@ -9,7 +9,7 @@ use filler::fill;
 use query::Charge;
 use query::Query;
 use relations::SETS;
-use relations::join_table;
+use subqueries::join_table;
 ghost use Prim.Native.Nat.{_+_, _≤_};
 ghost use mathlib.Core.Path.{_≡_};
 ghost use lib.ListN.{length, drop};

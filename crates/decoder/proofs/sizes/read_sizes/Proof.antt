@@ -4,9 +4,9 @@ use mathlib.Core.Path.{_≡_}
 use lib.ListN.{drop}
 use borrow.Author.Needs.{needs}
 use Rattle.relations.specs.Code.{mostSets}
-use Rattle.relations.specs.Table.{Tabled}
 use Rattle.relations.proofs.Turns.{few-sets}
-use Rattle.relations.proofs.Entries.{tested}
+use Rattle.subqueries.specs.Table.{Tabled}
+use Rattle.subqueries.proofs.Entries.{tested}
 use Rattle.sections.specs.Fields.{items}
 use Rattle.sections.proofs.Loops.{items-done}
 use Rattle.sections.proofs.Reading.{field-fits}

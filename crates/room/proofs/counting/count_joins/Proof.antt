@@ -6,8 +6,8 @@ use lib.Count.{ones}
 use lib.Pow.{pow-pos}
 use borrow.Author.Needs.{needs}
 use Rattle.relations.specs.Code.{mostSets}
-use Rattle.relations.specs.Table.{Tabled}
 use Rattle.relations.proofs.Turns.{few-sets}
+use Rattle.subqueries.specs.Table.{Tabled}
 use Rattle.tables.specs.Tables.{joinsBelow}
 use Rattle.tables.proofs.Trials.{joins-none}
 use Rattle.room.proofs.Counted.{turn-in, turn-out, counted, all-counted}

@@ -1,8 +1,8 @@
 -- The test is the definition's.
 use borrow.Author.Needs.{needs}
-use Rattle.relations.specs.Table.{isConnected}
-use Rattle.relations.proofs.table.is_connected.Statement.{statement}
-use Rattle.relations.proofs.table.is_connected.Tie as tie
+use Rattle.subqueries.specs.Table.{isConnected}
+use Rattle.subqueries.proofs.table.is_connected.Statement.{statement}
+use Rattle.subqueries.proofs.table.is_connected.Tie as tie
 
 pub is-connected-spec : {M : Type 1} → statement M
 unfolding isConnected

@@ -2,10 +2,10 @@
 use Prim.Native.Nat.{_+_, _-_, _≤_}
 use borrow.Author.Needs.{needs}
 use lib.ListN.{getD}
-use Rattle.relations.specs.Table.{Upper}
-use Rattle.relations.proofs.Upper.{upper-none, upper-done, double-fits, double-turn}
-use Rattle.relations.proofs.table.double.Statement.{statement}
-use Rattle.relations.proofs.table.double.Tie as tie
+use Rattle.subqueries.specs.Table.{Upper}
+use Rattle.subqueries.proofs.Upper.{upper-none, upper-done, double-fits, double-turn}
+use Rattle.subqueries.proofs.table.double.Statement.{statement}
+use Rattle.subqueries.proofs.table.double.Tie as tie
 
 abbrev Inv-loop : tie.InvT-loop
 Inv-loop table₀ half set₀ table set = (set ≤ half) × Upper table₀ table half set (λ i. getD table₀ i 0 + 65536)

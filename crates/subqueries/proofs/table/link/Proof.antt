@@ -4,11 +4,11 @@ use borrow.Author.Needs.{needs}
 use lib.Bits.{bitAnd}
 use lib.Dec.{eqb}
 use lib.ListN.{getD}
 use Rattle.relations.specs.Code.{orNone}
-use Rattle.relations.specs.Table.{Upper}
-use Rattle.relations.proofs.Upper.{upper-none, upper-done, link-fits, link-turn}
-use Rattle.relations.proofs.table.link.Statement.{statement}
-use Rattle.relations.proofs.table.link.Tie as tie
+use Rattle.subqueries.specs.Table.{Upper}
+use Rattle.subqueries.proofs.Upper.{upper-none, upper-done, link-fits, link-turn}
+use Rattle.subqueries.proofs.table.link.Statement.{statement}
+use Rattle.subqueries.proofs.table.link.Tie as tie
 
 abbrev Inv-loop : tie.InvT-loop
 Inv-loop table₀ half other add set₀ table set =

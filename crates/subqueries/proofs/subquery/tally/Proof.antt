@@ -1,8 +1,8 @@
 -- Each case of the test is a case of the definition.
 use native.Mathlib.Numerals.{add-one}
 use borrow.Author.Needs.{needs}
-use Rattle.relations.proofs.subquery.tally.Statement.{statement}
-use Rattle.relations.proofs.subquery.tally.Tie as tie
+use Rattle.subqueries.proofs.subquery.tally.Statement.{statement}
+use Rattle.subqueries.proofs.subquery.tally.Tie as tie
 
 pub tally-spec : {M : Type 1} → statement M
 tally-spec =

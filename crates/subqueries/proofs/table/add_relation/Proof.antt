@@ -3,10 +3,10 @@ use Prim.Native.Nat.{_+_, _-_, _≤_}
 use native.Mathlib.Omega.{arith}
 use borrow.Author.Needs.{needs}
 use lib.ListN.{getD}
-use Rattle.relations.specs.Table.{arriving, Upper, Roomy}
-use Rattle.relations.proofs.Upper.{doubled-roomy, linked-roomy, linked-none, linked-more, linked-all, join-mask}
-use Rattle.relations.proofs.table.add_relation.Statement.{statement}
-use Rattle.relations.proofs.table.add_relation.Tie as tie
+use Rattle.subqueries.specs.Table.{arriving, Upper, Roomy}
+use Rattle.subqueries.proofs.Upper.{doubled-roomy, linked-roomy, linked-none, linked-more, linked-all, join-mask}
+use Rattle.subqueries.proofs.table.add_relation.Statement.{statement}
+use Rattle.subqueries.proofs.table.add_relation.Tie as tie
 
 abbrev Inv-loop : tie.InvT-loop
 Inv-loop table₀ ends count half e₀ table e =

@@ -14,16 +14,17 @@ use lib.Count.{ones}
 use lib.Dec.{eqb}
 use lib.ListN.{length, getD}
 use lib.Pow.{pow-mono}
 use Rattle.relations.specs.declared.Joins.{Joins}
 use Rattle.relations.specs.Growth.{first, second, inside}
-use Rattle.relations.specs.Trees.{joinsIn}
+use Rattle.relations.specs.Trees.{joinsIn, joinBits}
 use Rattle.relations.specs.Code.{EndsOf, endsOf, orNone, mostSets}
-use Rattle.relations.specs.Table.{joinBits, entry, TableOf, arrives, arriving, Upper, Roomy}
 use Rattle.relations.proofs.Bits.{bit-high, bit-none}
 use Rattle.relations.proofs.Counts.{ones-more, ones-zero}
 use Rattle.relations.proofs.Listed.{listed-done}
-use Rattle.relations.proofs.Entries.{joins-next, bits-next, entry-most}
+use Rattle.relations.proofs.JoinBits.{joins-next, bits-next}
 use Rattle.relations.proofs.Turns.{ends-in}
+use Rattle.subqueries.specs.Table.{entry, TableOf, arrives, arriving, Upper, Roomy}
+use Rattle.subqueries.proofs.Entries.{entry-most}
 
 -- Tests of numbers that are equal together.
 same-eqb : (a b c d : ℕ) → (a ≡ b → c ≡ d) → (c ≡ d → a ≡ b) → eqb a b ≡ eqb c d

@@ -8,15 +8,9 @@ use lib.Bits.{bitAnd}
 use lib.Count.{ones}
 use lib.Dec.{eqb, leb, ltb}
 use lib.ListN.{length, getD}
 use Rattle.relations.specs.declared.Joins.{Joins}
-use Rattle.relations.specs.Growth.{inside}
-use Rattle.relations.specs.Trees.{joinsIn, Tree}
+use Rattle.relations.specs.Trees.{joinsIn, joinBits, Tree}
 use Rattle.relations.specs.Code.{Listed, orNone, mostSets}
-
--- The joins below m that lie in S, as a set of joins: the sum of 2^e over them.
-unfoldable pub joinBits : Joins → ℕ → ℕ → ℕ
-joinBits J S zero = 0
-joinBits J S (suc m) = elim (inside J S m) [ true ↦ joinBits J S m + 2 ^ m | false ↦ joinBits J S m ]
 
 -- The entry of a set: the number of its relations, the number of its joins, and its joins as a set, each in eight bits or more of its own.
 unfoldable pub entry : Joins → ℕ → ℕ
@@ -35,6 +29,11 @@ pub record Tabled (J : Joins) (l : List ℕ) : Type 0 where
 -- The set of an entry holds one join fewer than relations. In a tree these are the subqueries: `connected` in proofs/.
 unfoldable pub isConnected : ℕ → Bool
 isConnected x = eqb (x / 256 % 256 + 1) (x / 65536)
+
+-- One more where the test holds.
+abbrev pub tally : Bool → ℕ → ℕ
+tally true n = suc n
+tally false n = n
 
 -- The set M lies in T together with a new relation, whose mask is half, and not in T alone: the new one is M's highest, and the rest of M is in T.
 unfoldable pub arrives : ℕ → ℕ → ℕ → Bool

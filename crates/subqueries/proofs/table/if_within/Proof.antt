@@ -1,7 +1,7 @@
 -- Each case of the test is a case of the definition.
 use borrow.Author.Tests.{eq-eqb, ne-eqb}
-use Rattle.relations.proofs.table.if_within.Statement.{statement}
-use Rattle.relations.proofs.table.if_within.Tie as tie
+use Rattle.subqueries.proofs.table.if_within.Statement.{statement}
+use Rattle.subqueries.proofs.table.if_within.Tie as tie
 
 pub if-within-spec : {M : Type 1} → statement M
 if-within-spec =

@@ -1,8 +1,8 @@
 -- Where the new relation is the join's highest end, the join arrives where the other end is; elsewhere nowhere.
 use borrow.Author.Needs.{needs}
-use Rattle.relations.proofs.Upper.{highest, highest-fits, link-arrives, link-none}
-use Rattle.relations.proofs.table.link_join.Statement.{statement}
-use Rattle.relations.proofs.table.link_join.Tie as tie
+use Rattle.subqueries.proofs.Upper.{highest, highest-fits, link-arrives, link-none}
+use Rattle.subqueries.proofs.table.link_join.Statement.{statement}
+use Rattle.subqueries.proofs.table.link_join.Tie as tie
 
 pub link-join-spec : {M : Type 1} → statement M
 link-join-spec =

@@ -2,11 +2,11 @@
 use Prim.Native.Nat.{_+_, _-_, _^_, _≤_}
 use mathlib.Core.Path.{refl}
 use borrow.Author.Needs.{needs}
 use Rattle.relations.specs.Code.{Drawn, EndsOf}
-use Rattle.relations.specs.Table.{TableOf}
-use Rattle.relations.proofs.Doubling.{table-none, table-more, table-done, table-roomy}
-use Rattle.relations.proofs.table.join_table.Statement.{statement}
-use Rattle.relations.proofs.table.join_table.Tie as tie
+use Rattle.subqueries.specs.Table.{TableOf}
+use Rattle.subqueries.proofs.Doubling.{table-none, table-more, table-done, table-roomy}
+use Rattle.subqueries.proofs.table.join_table.Statement.{statement}
+use Rattle.subqueries.proofs.table.join_table.Tie as tie
 
 abbrev Inv-loop : tie.InvT-loop
 Inv-loop joins around table₀ r₀ table r = (r ≤ joins .count + 1) × (TableOf joins table (2 ^ r) × (Drawn joins × EndsOf joins around (joins .count)))

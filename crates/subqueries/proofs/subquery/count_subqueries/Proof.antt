@@ -2,12 +2,13 @@
 use Prim.Native.Nat.{_+_, _-_, _^_, _≤_}
 use mathlib.Core.Path.{_≡_}
 use borrow.Author.Needs.{needs}
 use Rattle.relations.specs.Code.{mostSets}
 use Rattle.relations.specs.Trees.{countBelow}
-use Rattle.relations.specs.Table.{Tabled}
-use Rattle.relations.proofs.Turns.{few-sets, subqueries-none, subqueries-more, subqueries-done}
-use Rattle.relations.proofs.subquery.count_subqueries.Statement.{statement}
-use Rattle.relations.proofs.subquery.count_subqueries.Tie as tie
+use Rattle.relations.proofs.Turns.{few-sets}
+use Rattle.subqueries.specs.Table.{Tabled}
+use Rattle.subqueries.proofs.Counting.{subqueries-none, subqueries-more, subqueries-done}
+use Rattle.subqueries.proofs.subquery.count_subqueries.Statement.{statement}
+use Rattle.subqueries.proofs.subquery.count_subqueries.Tie as tie
 
 abbrev Inv-loop : tie.InvT-loop
 Inv-loop joins table n₀ set₀ n set =

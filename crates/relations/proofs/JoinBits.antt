@@ -1,27 +1,17 @@
--- What the entry of a set says: its three parts stand apart in the number, since there are at most eight joins; and in a tree the sets with one
--- join fewer than relations are the subqueries.
-use Prim.Native.Nat.{ℕ, zero, suc, _+_, _/_, _%_, _^_, _≤_, _<_}
+-- The joins in a set of relations, counted and as a set of joins, one join more at a time: a join has its bit there exactly where it lies in the set.
+use Prim.Native.Nat.{ℕ, zero, suc, _+_, _^_, _≤_, _<_}
 use mathlib.Core.Path.{_≡_, refl, sym, ap, subst, _∙_}
-use mathlib.Core.Bool.{Bool, true, false, _&&_}
-use mathlib.Core.List.{List}
+use mathlib.Core.Bool.{Bool, true, false}
 use mathlib.Core.Logic.{_⊎_, inl, inr}
-use native.Mathlib.Nat.{pow-suc, eq-zero-or-pos, eq-or-lt-of-le, le-of-suc-le-suc}
+use native.Mathlib.Nat.{pow-suc, eq-or-lt-of-le, le-of-suc-le-suc}
 use native.Mathlib.Decide.{decLt}
 use native.Mathlib.Omega.{arith}
-use borrow.Author.Tests.{lt-ltb, ne-eqb}
-use lib.Count.{ones, ones-le}
-use lib.Dec.{eqb, ltb}
-use lib.ListN.{getD}
-use lib.Pow.{pow-mono}
 use Rattle.relations.specs.declared.Joins.{Joins}
 use Rattle.relations.specs.Sets.{bit}
 use Rattle.relations.specs.Growth.{inside}
-use Rattle.relations.specs.Trees.{isSubquery, joinsIn, Tree}
+use Rattle.relations.specs.Trees.{joinsIn, joinBits}
 use Rattle.relations.specs.Code.{orNone}
-use Rattle.relations.specs.Table.{joinBits, entry, Tabled, isConnected}
 use Rattle.relations.proofs.Bits.{bit-add, bit-high, bit-pow, bit-pow-other, single-apart}
-use Rattle.relations.proofs.Counts.{ones-zero}
-use Rattle.relations.proofs.SubqueryCount.{subquery-by-count}
 
 -- One join more: it is counted and its bit is set where it lies in the set.
 pub joins-next : (J : Joins) (S m : ℕ) → joinsIn J S (suc m) ≡ joinsIn J S m + orNone (inside J S m) 1
@@ -83,42 +73,3 @@ bits-inside J S (suc m) e h = go (eq-or-lt-of-le (le-of-suc-le-suc h)) (bits-ins
 -- A member of the set is a join that lies in S.
 pub join-of-bit : (J : Joins) (S m e : ℕ) → bit (joinBits J S m) e ≡ 1 → (e < m) × (inside J S e ≡ true)
 join-of-bit J S m e h = elim (decLt e m) [ yes l ↦ (l, or-none-some (inside J S e) 1 (omega (arith, bits-inside J S m e l)) .0) | no l ↦ absurd (omega (arith, bits-high J S m e (omega arith))) ]
-
--- The three parts of an entry.
-module _ (J : Joins) (S : ℕ) (few : J .count ≤ 8) where
-  bits-few : joinBits J S (J .count) < 256
-  bits-few = let most : 2 ^ J .count ≤ 2 ^ 8 = pow-mono {j = 8} few in omega (arith, bits-below J S (J .count))
-
-  pub entry-relations : entry J S / 65536 ≡ ones S
-  unfolding entry
-  entry-relations = omega (arith, joins-most J S (J .count), bits-few)
-
-  pub entry-count : entry J S / 256 % 256 ≡ joinsIn J S (J .count)
-  unfolding entry
-  entry-count = omega (arith, joins-most J S (J .count), bits-few)
-
-  pub entry-joins : entry J S % 256 ≡ joinBits J S (J .count)
-  unfolding entry
-  entry-joins = omega (arith, joins-most J S (J .count), bits-few)
-
-  pub entry-most : (k : ℕ) → S < 2 ^ k → k ≤ 9 → entry J S < 2 ^ 20
-  unfolding entry
-  entry-most k h l = omega (arith, joins-most J S (J .count), bits-few, ones-le k S h)
-
-  -- In a tree the set is a subquery exactly where its entry has one join fewer than relations. The empty set has no relation, and no join to make up for it.
-  pub connected : Tree J (J .count + 1) → S < 2 ^ (J .count + 1) → isConnected (entry J S) ≡ isSubquery J (J .count + 1) S
-  unfolding isConnected
-  connected t h = rw (entry-count, entry-relations) (elim (eq-zero-or-pos S) [ inl e ↦ empty e | inr p ↦ some p ])
-    where
-      test : isSubquery J (J .count + 1) S ≡ (ltb 0 S && eqb (joinsIn J S (J .count) + 1) (ones S))
-      test = subquery-by-count J (J .count + 1) t S h
-
-      empty : S ≡ 0 → eqb (joinsIn J S (J .count) + 1) (ones S) ≡ isSubquery J (J .count + 1) S
-      empty e = rw (test, e, ones-zero) (ne-eqb (joinsIn J 0 (J .count) + 1) 0 (λ q. omega arith))
-
-      some : 0 < S → eqb (joinsIn J S (J .count) + 1) (ones S) ≡ isSubquery J (J .count + 1) S
-      some p = rw (test, lt-ltb 0 S p)
-
--- What a tree's table says of a set, as a loop over the sets below e has it.
-pub tested : (J : Joins) (l : List ℕ) (S e : ℕ) (d : Bool) → Tabled J l → d ≡ isConnected (getD l S 0) → S < e → e ≡ 2 ^ (J .count + 1) → d ≡ isSubquery J (J .count + 1) S
-tested J l S e d t q h z = q ∙ ap isConnected (t .entries .each S (omega arith)) ∙ connected J S (t .few) (t .tree) (omega arith)

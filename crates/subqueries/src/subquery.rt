@@ -1,13 +1,12 @@
 // Which sets of relations are subqueries: in a tree, those that hold one join fewer than relations. No growth is needed.
-use crate::Joins;
-use crate::SETS;
-use crate::member::single;
 use crate::table::is_connected;
+use relations::Joins;
+use relations::SETS;
+use relations::single;
 ghost use Prim.Native.Nat.{_+_, _^_, _≤_, _<_};
 ghost use mathlib.Core.Path.{_≡_};
 ghost use Rattle.relations.specs.Trees.{subqueries};
-ghost use Rattle.relations.specs.Code.{tally};
-ghost use Rattle.relations.specs.Table.{Tabled};
+ghost use Rattle.subqueries.specs.Table.{tally, Tabled};
 
 // One more where the test holds.
 fn tally(yes: bool, n: usize) -> usize

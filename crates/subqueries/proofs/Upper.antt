@@ -15,10 +15,10 @@ use lib.Dec.{eqb, leb, ltb}
 use lib.ListN.{length, getD, set, length-set}
 use lib.Pow.{pow-mono}
 use lib.Seq.{getD-set-same, getD-set-other}
 use Rattle.relations.specs.Code.{orNone}
-use Rattle.relations.specs.Table.{arrives, arriving, Upper, Roomy}
 use Rattle.relations.proofs.Leads.{both-true}
-use Rattle.relations.proofs.Entries.{or-none-le}
+use Rattle.relations.proofs.JoinBits.{or-none-le}
+use Rattle.subqueries.specs.Table.{arrives, arriving, Upper, Roomy}
 
 -- Filled from its first place on.
 pub upper-none : (l : List ℕ) (half : ℕ) (g : ℕ → ℕ) → Upper l l half 0 g

@@ -1,15 +1,15 @@
 // What every set of relations holds: its relations and its joins, worked out for all sets in one pass by doubling.
-use crate::Joins;
-use crate::SETS;
-use crate::masks::ends;
-use crate::member::single;
+use relations::Joins;
+use relations::SETS;
+use relations::ends;
+use relations::single;
 ghost use Prim.Native.Nat.{_+_, _*_, _/_, _%_, _^_, _≤_, _<_};
 ghost use mathlib.Core.Path.{_≡_};
 ghost use lib.Bits.{bitAnd};
 ghost use lib.Dec.{eqb};
 ghost use lib.ListN.{getD};
 ghost use Rattle.relations.specs.Code.{Drawn, orNone};
-ghost use Rattle.relations.specs.Table.{TableOf, isConnected, arrives, arriving, Upper, Roomy};
+ghost use Rattle.subqueries.specs.Table.{TableOf, isConnected, arrives, arriving, Upper, Roomy};
 
 // What one relation and one join add to an entry. The joins as a set, eight at most, stand below.
 const RELATION: u32 = 65536;

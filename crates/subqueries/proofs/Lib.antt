@@ -1,0 +1,4 @@
+pub mod Entries
+pub mod Upper
+pub mod Doubling
+pub mod Counting
