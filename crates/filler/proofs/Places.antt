@@ -6,7 +6,7 @@ use lib.Dec.{leb}
 use borrow.Author.Tests.{leb-true, leb-false, le-leb, lt-leb}
 use Rattle.relations.specs.Code.{mostSets}
 use Rattle.relations.specs.Trees.{Subquery}
-use Rattle.relations.proofs.Turns.{below-sets}
+use Rattle.relations.proofs.Loops.{below-sets}
 use Rattle.query.specs.declared.Query.{Query}
 use Rattle.query.specs.Query.{Valid, relationsOf, sitesOf}
 use Rattle.query.proofs.Choice.{pick-all}

@@ -18,7 +18,7 @@ use Rattle.relations.proofs.Bits.{ext, bit-le, bit-none, bit-and, bit-o
 use Rattle.relations.proofs.Counts.{ones-mono}
 use Rattle.relations.proofs.Leads.{Leads, leads-means, bit-along, along-within, ones-along}
 use Rattle.relations.proofs.Growth.{closed-of-none, grow-still, grow-add}
-use Rattle.relations.proofs.Turns.{ends-in}
+use Rattle.relations.proofs.Loops.{ends-in}
 
 -- None of a join's ends is in A where A masked by them is empty.
 none-in : (J : Joins) (A e : ℕ) → eqb (bitAnd A (endsOf J e)) 0 ≡ eqb (bit A (first J e) + bit A (second J e)) 0

@@ -1,5 +1,5 @@
 pub mod Listed
-pub mod Turns
+pub mod Loops
 pub mod Following
 pub mod Drawing
 pub mod Bits

@@ -12,7 +12,7 @@ use Rattle.relations.specs.Code.{mostSets}
 use Rattle.relations.specs.declared.Joins.{Joins}
 use Rattle.relations.specs.Trees.{Tree, isSubquery, subqueries}
 use Rattle.relations.proofs.Counts.{ones-pos}
-use Rattle.relations.proofs.Turns.{few-sets}
+use Rattle.relations.proofs.Loops.{few-sets}
 use Rattle.relations.proofs.SubqueriesMost.{subqueries-most}
 use Rattle.subqueries.specs.Table.{Tabled, isConnected}
 use Rattle.subqueries.proofs.Entries.{tested}

@@ -19,7 +19,7 @@ use Rattle.relations.specs.Code.{mostSets}
 use Rattle.relations.specs.Sets.{bit}
 use Rattle.relations.specs.Splits.{partsBy}
 use Rattle.relations.proofs.Connected.{subquery-range}
-use Rattle.relations.proofs.Turns.{below-sets}
+use Rattle.relations.proofs.Loops.{below-sets}
 use Rattle.query.specs.declared.Query.{Query}
 use Rattle.query.specs.Choice.{pick}
 use Rattle.query.specs.Query.{relationsOf, sitesOf}

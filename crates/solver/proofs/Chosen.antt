@@ -10,7 +10,7 @@ use Rattle.relations.specs.Growth.{inside}
 use Rattle.relations.specs.Trees.{Subquery, joinBits}
 use Rattle.relations.specs.Code.{orNone}
 use Rattle.relations.proofs.JoinBits.{bits-next}
-use Rattle.relations.proofs.Turns.{ends-in}
+use Rattle.relations.proofs.Loops.{ends-in}
 use Rattle.query.specs.declared.Query.{Query}
 use Rattle.query.specs.Choice.{pick}
 use Rattle.query.specs.Query.{relationsOf, sitesOf, mayJoin}

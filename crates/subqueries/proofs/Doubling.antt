@@ -22,7 +22,7 @@ use Rattle.relations.proofs.Bits.{bit-high, bit-none}
 use Rattle.relations.proofs.Counts.{ones-more, ones-zero}
 use Rattle.relations.proofs.Listed.{listed-done}
 use Rattle.relations.proofs.JoinBits.{joins-next, bits-next}
-use Rattle.relations.proofs.Turns.{ends-in}
+use Rattle.relations.proofs.Loops.{ends-in}
 use Rattle.subqueries.specs.Table.{entry, TableOf, arrives, arriving, Upper, Roomy}
 use Rattle.subqueries.proofs.Entries.{entry-most}
 

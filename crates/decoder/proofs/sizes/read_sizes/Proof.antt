@@ -4,7 +4,7 @@ use mathlib.Core.Path.{_≡_}
 use lib.ListN.{drop}
 use borrow.Author.Needs.{needs}
 use Rattle.relations.specs.Code.{mostSets}
-use Rattle.relations.proofs.Turns.{few-sets}
+use Rattle.relations.proofs.Loops.{few-sets}
 use Rattle.subqueries.specs.Table.{Tabled}
 use Rattle.subqueries.proofs.Entries.{tested}
 use Rattle.sections.specs.Fields.{items}

@@ -6,7 +6,7 @@ use lib.Count.{ones}
 use lib.Pow.{pow-pos}
 use borrow.Author.Needs.{needs}
 use Rattle.relations.specs.Code.{mostSets}
-use Rattle.relations.proofs.Turns.{few-sets}
+use Rattle.relations.proofs.Loops.{few-sets}
 use Rattle.subqueries.specs.Table.{Tabled}
 use Rattle.tables.specs.Tables.{joinsBelow}
 use Rattle.tables.proofs.Trials.{joins-none}

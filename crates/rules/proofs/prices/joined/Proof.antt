@@ -1,7 +1,7 @@
 -- `prices::joined` meets its contract: the reads and the price are the query's, and the sums fit by the limits asked. Assumes nothing.
 use borrow.Author.Needs.{needs}
 use Rattle.rules.proofs.Pricing.{sum-fits, joined-is}
-use Rattle.relations.proofs.Turns.{below-sets}
+use Rattle.relations.proofs.Loops.{below-sets}
 use Rattle.rules.proofs.prices.joined.Statement.{statement}
 use Rattle.rules.proofs.prices.joined.Tie as tie
 

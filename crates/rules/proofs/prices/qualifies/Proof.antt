@@ -1,7 +1,7 @@
 -- `prices::qualifies` meets its contract: the index rule is that of the lists, and the set is below the limit. Assumes nothing.
 use borrow.Author.Needs.{needs}
 use Rattle.rules.proofs.Pricing.{qualifies-is}
-use Rattle.relations.proofs.Turns.{below-sets}
+use Rattle.relations.proofs.Loops.{below-sets}
 use Rattle.rules.proofs.prices.qualifies.Statement.{statement}
 use Rattle.rules.proofs.prices.qualifies.Tie as tie
 

@@ -4,7 +4,7 @@ use mathlib.Core.Path.{_≡_}
 use borrow.Author.Needs.{needs}
 use Rattle.relations.specs.Code.{mostSets}
 use Rattle.relations.specs.Trees.{countBelow}
-use Rattle.relations.proofs.Turns.{few-sets}
+use Rattle.relations.proofs.Loops.{few-sets}
 use Rattle.subqueries.specs.Table.{Tabled}
 use Rattle.subqueries.proofs.Counting.{subqueries-none, subqueries-more, subqueries-done}
 use Rattle.subqueries.proofs.subquery.count_subqueries.Statement.{statement}

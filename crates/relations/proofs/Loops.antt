@@ -1,4 +1,4 @@
--- What the code's loops and calls lean on: a join is tested by its ends as by its relations, and the arrays have a place for every set of nine relations.
+-- What the code's loops and calls lean on: a join is tested by its ends as by its relations, and arrays over sets have a place for every set of nine relations.
 use Prim.Native.Nat.{ℕ, _+_, _^_, _≤_, _<_}
 use mathlib.Core.Path.{_≡_, refl, ap}
 use mathlib.Core.Bool.{Bool, true, false}
