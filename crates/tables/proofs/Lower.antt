@@ -83,9 +83,9 @@ module _ (combine : ℕ → ℕ → ℕ) (laws : Combines combine) (q : Query) (
       (plus-most (both combine (delivered combine q P k) (delivered combine q R k)) (some (joinPrice q k (indexed q P k) P (indexed q R k) R)) (combine x y) z
       (both-most combine (laws .mono) (delivered combine q P k) (delivered combine q R k) x y one other) price))
 
-  spares : (h : Held) → qualifies q h ≡ true → indexed q (h .set) (h .site) ≡ true
+  qualified : (h : Held) → qualifies q h ≡ true → indexed q (h .set) (h .site) ≡ true
   unfolding qualifies
-  spares h e = both-true (isBare (h .origin)) (indexed q (h .set) (h .site)) e .1
+  qualified h e = both-true (isBare (h .origin)) (indexed q (h .set) (h .site)) e .1
 
   -- A join of two results at k, either way round.
   abbrev JoinedAt : (P R k x y : ℕ) (i j : Bool) → Type 0
@@ -134,7 +134,7 @@ module _ (combine : ℕ → ℕ → ℕ) (laws : Combines combine) (q : Query) (
           let known : e < q .joins .count = omega (arith, v .tree .joins) in
           let both-at =
           joins-at (a .set) (b .set) e (b .site) (a .figure .0) (b .figure .0) (qualifies q a) (qualifies q b) (fa .subquery) (fb .subquery) apart known (may .may)
-          (may .linked) (λ s. subst (λ (k : ℕ). indexed q (a .set) k ≡ true) (may .there) (spares a s)) (spares b)
+          (may .linked) (λ s. subst (λ (k : ℕ). indexed q (a .set) k ≡ true) (may .there) (qualified a s)) (qualified b)
           (subst (λ (k : ℕ). AtMost (delivered combine q (a .set) k) (a .figure .0)) (may .there) (at-site a fa)) (at-site b fb) in
           record {
             subquery = both-at .0;

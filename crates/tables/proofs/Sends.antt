@@ -37,15 +37,15 @@ abbrev pub Puts : (ℕ → ℕ → ℕ) → Query → List Step → ℕ → ℕ 
 Puts combine q xs S t o c =
     (m : Machine) → Apart (m .loaded) S → ran combine q xs m ≡ went (record { loaded = m .loaded + S; stack = heldAt S t o c ∷ m .stack })
 
--- They do so, the result is read by its index just where the tables say so, and there are at most 4 steps a relation less 2.
+-- They do so, the result qualifies just where the tables say so, and there are at most 4 steps a relation less 2.
 pub record Delivers (combine : ℕ → ℕ → ℕ) (q : Query) (xs : List Step) (S t c : ℕ) : Type 0 where
   pub origin : Origin
-  pub reads : qualifies q (heldAt S t origin c) ≡ indexed q S t
+  pub qualified : qualifies q (heldAt S t origin c) ≡ indexed q S t
   pub puts : Puts combine q xs S t origin c
   pub long : 1 ≤ length xs
   pub short : length xs + 2 ≤ 4 * ones S
 
--- Two relations or more are not read by an index, nor is one away from its home.
+-- Two relations or more do not qualify, nor does one away from its home.
 pub more-unindexed : (q : Query) (S k : ℕ) → 1 < ones S → indexed q S k ≡ false
 unfolding indexed
 more-unindexed q S k more = rw (ne-eqb (ones S) 1 (λ e. omega arith))
@@ -58,10 +58,10 @@ module _ (combine : ℕ → ℕ → ℕ) (q : Query) where
   stays : (xs : List Step) (S k x : ℕ) (o : Origin) → Puts combine q xs S k o x → qualifies q (heldAt S k o x) ≡ indexed q S k → 1 ≤ length xs →
       length xs + 3 ≤ 4 * ones S → Delivers combine q (xs ++ []) S k x
   unfolding ran
-  stays xs S k x o puts reads long short =
+  stays xs S k x o puts qualified long short =
       record {
         origin = o;
-        reads = reads;
+        qualified = qualified;
         puts = λ m apart. ran-then combine q xs [] m (record { loaded = m .loaded + S; stack = heldAt S k o x ∷ m .stack }) (puts m apart);
         long = omega (arith, length-append xs []);
         short = omega (arith, length-append xs []);
@@ -73,7 +73,7 @@ module _ (combine : ℕ → ℕ → ℕ) (q : Query) where
   sent xs S k t x o puts fresh listed away opened unindexed long short =
       record {
         origin = Sent;
-        reads = sym unindexed;
+        qualified = sym unindexed;
         puts = λ m apart.
             ran-then combine q xs (sendStep t ∷ []) m (record { loaded = m .loaded + S; stack = heldAt S k o x ∷ m .stack }) (puts m apart)
             ∙ ran-one combine q (sendStep t) (record { loaded = m .loaded + S; stack = heldAt S k o x ∷ m .stack })
@@ -88,11 +88,11 @@ module _ (combine : ℕ → ℕ → ℕ) (q : Query) where
   pub due : (xs : List Step) (S k t x y : ℕ) (o : Origin) → Puts combine q xs S k o x → isSent o ≡ false → qualifies q (heldAt S k o x) ≡ indexed q S k →
       ((k ≡ t → ⊥) → indexed q S t ≡ false) → t < sitesOf q → carriage q S k t ≡ some y → 1 ≤ length xs → length xs + 3 ≤ 4 * ones S →
       Delivers combine q (xs ++ sendIfDue k t) S t (x + y)
-  due xs S k t x y o puts fresh reads unindexed listed price long short = go (carried q S k t y price)
+  due xs S k t x y o puts fresh qualified unindexed listed price long short = go (carried q S k t y price)
     where
       there : (t z : ℕ) → k ≡ t → x ≡ z → Delivers combine q (xs ++ sendIfDue k t) S t z
       there t z same figure =
-          rw (eq-eqb k t same) (rw (same, figure) at (stays xs S k x o puts reads long short))
+          rw (eq-eqb k t same) (rw (same, figure) at (stays xs S k x o puts qualified long short))
 
       go : Carried q S k t y → Delivers combine q (xs ++ sendIfDue k t) S t (x + y)
       go (inl (same, free)) = there t (x + y) same (omega arith)

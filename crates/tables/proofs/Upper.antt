@@ -50,7 +50,7 @@ module _ (combine : ℕ → ℕ → ℕ) (q : Query) where
       ∙ ran-one combine q (joinStep e) both-on _
       (join-goes combine q e (m .loaded + P + R) (heldAt P k (one .origin) x) (heldAt R k (other .origin) y) (m .stack)
       (record { known = known; there = refl; may = may; linked = linked }))
-      ∙ ends-same k x y P R _ _ _ _ _ _ S (m .stack) (one .reads) (other .reads) whole (omega arith)
+      ∙ ends-same k x y P R _ _ _ _ _ _ S (m .stack) (one .qualified) (other .qualified) whole (omega arith)
     where
       first-on : Machine
       first-on = record { loaded = m .loaded + P; stack = heldAt P k (one .origin) x ∷ m .stack }
