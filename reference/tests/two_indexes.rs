@@ -20,17 +20,6 @@ use reference::step::{self, Step};
 use reference::units::{Bytes, Charge};
 use reference::{check, encode, exhaustive};
 
-/// Other ways of reading relations with indexes.
-const READ_OTHERWISE: [Method; 7] = [
-    Method::IndexAfterSend,
-    Method::SentBesideAnother,
-    Method::BothSpared,
-    Method::NeitherSpared,
-    Method::SmallerSpared,
-    Method::EqualBothRead,
-    Method::EqualBothSpared,
-];
-
 fn cost(query: &Query, method: Method) -> Option<Charge> {
     solve::solve(query, method).map(|plan| plan.cost)
 }
@@ -85,7 +74,7 @@ fn plans_that_solve_does_not_write() {
 
 #[test]
 fn a_figure_tells_each_other_reading() {
-    for method in READ_OTHERWISE {
+    for method in Method::READ_OTHERWISE {
         let told = pinned_indexes::worked()
             .iter()
             .any(|worked| cost(&worked.query, method) != Some(Charge(worked.cost)));
@@ -137,7 +126,7 @@ fn both_qualify_often() {
 
 #[test]
 fn each_other_reading_shows_in_random_queries() {
-    for method in READ_OTHERWISE {
+    for method in Method::READ_OTHERWISE {
         let query = |case| queries::query(&mut Random::for_case(11, case), &Extent::small());
         let differs = |query: &Query| cost(query, method) != cost(query, Method::Rules);
         let told = (0..6_000).map(query).filter(differs).count();
