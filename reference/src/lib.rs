@@ -7,7 +7,6 @@
 //! to the model.
 
 pub mod answers;
-pub mod asked;
 pub mod c_call;
 pub mod check;
 pub mod compare;
@@ -19,6 +18,7 @@ pub mod hex;
 pub mod limits;
 pub mod listing;
 pub mod method;
+pub mod names;
 pub mod older;
 pub mod pinned;
 pub mod pinned_calls;

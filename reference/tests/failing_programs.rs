@@ -9,6 +9,7 @@ use reference::compare::program::{Answering, Feed, Program};
 use reference::compare::{calls, plan};
 use reference::encode::encode;
 use reference::method::Method;
+use reference::names::Names;
 use reference::pinned;
 
 const PLAN: &str = env!("CARGO_BIN_EXE_model_plan");
@@ -100,7 +101,10 @@ fn a_mismatch_shows_the_query_as_text() {
     let shown = run(env!("CARGO_BIN_EXE_diff_plan"), &["true", "1", "1"], &[]).stdout;
     let shown = String::from_utf8(shown).unwrap();
     assert!(shown.contains(&reference::hex::hex(&encode(&pinned::q()))), "{shown}");
-    assert!(shown.contains(&reference::text::print(&pinned::q().into())), "{shown}");
+    assert!(
+        shown.contains(&reference::text::print(&pinned::q().into(), &Names::default())),
+        "{shown}"
+    );
 }
 
 #[test]

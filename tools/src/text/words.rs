@@ -1,8 +1,8 @@
 //! The words of a statement: numbers within their limits, and the terms of sites and lines.
 
-use crate::limits::{MOST_FIXED, MOST_RATE, MOST_RELATIONS};
-use crate::query::Line;
-use crate::units::{Charge, Rate};
+use reference::limits::{MOST_FIXED, MOST_RATE, MOST_RELATIONS};
+use reference::query::Line;
+use reference::units::{Charge, Rate};
 
 /// Open or closed, and the amounts.
 pub fn line(terms: &[&str]) -> Result<Line, String> {

@@ -1,7 +1,7 @@
 //! From a text to the query, or to the draft, that it states.
 
-use crate::room::Draft;
-use crate::stated::Stated;
+use reference::room::Draft;
+use reference::stated::Stated;
 use crate::text::fault::Fault;
 use crate::text::statements::Statements;
 

@@ -1,12 +1,12 @@
 //! What a text tells of sizes: each of them, or the rows and divisors in their place.
 
-use crate::limits::{MOST_DIVISOR, MOST_RELATIONS, MOST_ROWS, MOST_SIZE};
-use crate::rows::RowCounts;
-use crate::sets::{self, Set};
+use reference::limits::{MOST_DIVISOR, MOST_RELATIONS, MOST_ROWS, MOST_SIZE};
+use reference::rows::RowCounts;
+use reference::sets::{self, Set};
 use crate::text::names;
 use crate::text::words::{number, positive, relation};
-use crate::tree::{self, Join};
-use crate::units::Bytes;
+use reference::tree::{self, Join};
+use reference::units::Bytes;
 
 const NOT_BOTH: &str = "a text has sizes, or rows and divisors, not both";
 

@@ -1,12 +1,12 @@
 //! What the statements of a text come to together, once all are taken.
 
-use crate::query::{Line, Query, Relation, Site};
-use crate::room::Draft;
-use crate::sets;
-use crate::stated::Stated;
+use reference::query::{Line, Query, Relation, Site};
+use reference::room::Draft;
+use reference::sets;
+use reference::stated::Stated;
 use crate::text::fault::Fault;
 use crate::text::statements::Statements;
-use crate::tree;
+use reference::tree;
 
 impl Statements {
     /// The draft. Whether its joins make a tree is for room to say, and nothing else is asked.

@@ -1,0 +1,16 @@
+//! `fanchuki check`.
+
+use std::ffi::OsString;
+
+use crate::commands::Command;
+use crate::done::Done;
+use crate::failure::Failure;
+
+pub const COMMAND: Command = Command { name: "check", help: HELP, run };
+
+const HELP: &str = "check
+";
+
+fn run(_words: &[OsString]) -> Result<Done, Failure> {
+    Err(Failure::Fault("not written yet".into()))
+}

@@ -1,0 +1,16 @@
+//! `fanchuki sizes`.
+
+use std::ffi::OsString;
+
+use crate::commands::Command;
+use crate::done::Done;
+use crate::failure::Failure;
+
+pub const COMMAND: Command = Command { name: "sizes", help: HELP, run };
+
+const HELP: &str = "sizes
+";
+
+fn run(_words: &[OsString]) -> Result<Done, Failure> {
+    Err(Failure::Fault("not written yet".into()))
+}
