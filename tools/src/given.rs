@@ -74,5 +74,9 @@ pub fn read(name: &OsStr) -> Result<Vec<u8>, Failure> {
 
 /// The file's name as messages tell it.
 pub fn shown(name: &OsStr) -> String {
-    if name == "-" { "standard input".into() } else { Path::new(name).display().to_string() }
+    if name == "-" {
+        "standard input".into()
+    } else {
+        Path::new(name).display().to_string()
+    }
 }

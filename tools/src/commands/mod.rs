@@ -58,13 +58,12 @@ pub fn run(words: &[OsString]) -> Result<Done, Failure> {
     if rest.iter().any(|word| word == "--help" || word == "-h") {
         return Ok(Done::printing(format!("{}{ENDS}", command.help)));
     }
-    (command.run)(rest)
-        .map_err(|failure| match failure {
-            Failure::Usage(reason) => {
-                Failure::Usage(format!("{reason}\n'fanchuki {first} --help' tells more"))
-            }
-            other => other,
-        })
+    (command.run)(rest).map_err(|failure| match failure {
+        Failure::Usage(reason) => {
+            Failure::Usage(format!("{reason}\n'fanchuki {first} --help' tells more"))
+        }
+        other => other,
+    })
 }
 
 fn overview() -> String {

@@ -1,9 +1,9 @@
 //! From a text to the query, or to the draft, that it states.
 
-use reference::room::Draft;
-use reference::stated::Stated;
 use crate::text::fault::Fault;
 use crate::text::statements::Statements;
+use reference::room::Draft;
+use reference::stated::Stated;
 
 /// The query that the text states, by sizes or by rows and divisors.
 pub fn parse(text: &str) -> Result<Stated, Fault> {

@@ -1,10 +1,10 @@
 //! The statements of a text, taken one by one.
 
-use reference::limits::{MOST_RELATIONS, MOST_SITES};
-use reference::query::{Line, Relation, Site};
 use crate::text::fault::Fault;
 use crate::text::told::Told;
 use crate::text::words::{fixed_and_rate, last_in_order, line, number, relation, set_once};
+use reference::limits::{MOST_RELATIONS, MOST_SITES};
+use reference::query::{Line, Relation, Site};
 use reference::tree::Join;
 
 /// What the statements so far have said. A bare site or relation, which only a draft may have,

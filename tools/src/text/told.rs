@@ -1,10 +1,10 @@
 //! What a text tells of sizes: each of them, or the rows and divisors in their place.
 
+use crate::text::names;
+use crate::text::words::{number, positive, relation};
 use reference::limits::{MOST_DIVISOR, MOST_RELATIONS, MOST_ROWS, MOST_SIZE};
 use reference::rows::RowCounts;
 use reference::sets::{self, Set};
-use crate::text::names;
-use crate::text::words::{number, positive, relation};
 use reference::tree::{self, Join};
 use reference::units::Bytes;
 

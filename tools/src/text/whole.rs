@@ -1,11 +1,11 @@
 //! What the statements of a text come to together, once all are taken.
 
+use crate::text::fault::Fault;
+use crate::text::statements::Statements;
 use reference::query::{Line, Query, Relation, Site};
 use reference::room::Draft;
 use reference::sets;
 use reference::stated::Stated;
-use crate::text::fault::Fault;
-use crate::text::statements::Statements;
 use reference::tree;
 
 impl Statements {
