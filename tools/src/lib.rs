@@ -7,6 +7,7 @@ pub mod calls;
 pub mod cheapest;
 pub mod commands;
 pub mod done;
+pub mod drawn;
 pub mod explained;
 pub mod failure;
 pub mod given;

@@ -67,20 +67,25 @@ impl Price {
 }
 
 impl Joining {
-    /// The operand whose index is followed: of two that qualify the larger.
-    pub fn spared(&self) -> Option<Operand> {
+    /// Which operand's index is followed: of two that qualify the larger's.
+    pub fn spared_place(&self) -> Option<usize> {
         let [below, top] = self.operands;
         match (below.qualifies, top.qualifies) {
-            (true, true) if top.size > below.size => Some(top),
-            (true, _) => Some(below),
-            (false, true) => Some(top),
+            (true, true) => Some(usize::from(top.size > below.size)),
+            (true, false) => Some(0),
+            (false, true) => Some(1),
             (false, false) => None,
         }
     }
 
-    pub fn read(&self) -> impl Iterator<Item = Operand> + '_ {
-        let spared = self.spared();
-        self.operands.into_iter().filter(move |&operand| Some(operand) != spared)
+    pub fn spared(&self) -> Option<Operand> {
+        self.spared_place().map(|place| self.operands[place])
+    }
+
+    pub fn read(&self) -> impl Iterator<Item = Operand> {
+        let spared = self.spared_place();
+        let read = self.operands.into_iter().enumerate();
+        read.filter(move |&(place, _)| Some(place) != spared).map(|(_, operand)| operand)
     }
 }
 
