@@ -7,9 +7,9 @@ use crate::drawn::tree::{Carried, Node};
 const SENT: &str = "penwidth=1.8, color=\"#333333\"";
 const SPARED: &str = "style=dashed, color=\"#777777\"";
 const STAYS: &str = "color=\"#777777\"";
-const TAG: &str = "style=\"filled,rounded\", fillcolor=white, color=\"#333333\", fontsize=10, \
-                   margin=\"0.08,0.04\", penwidth=0.8";
-const WORDS: &str = "shape=plain, style=solid, fontsize=10";
+const TAG: &str = "style=\"filled,rounded\", fillcolor=white, color=\"#333333\", fontsize=10.5, \
+                   margin=\"0.06,0.04\", penwidth=0.8";
+const WORDS: &str = "shape=plain, style=solid, fontsize=10.5";
 
 /// A send has a tag with its price; a result that stays has as long an arrow without one.
 pub fn arrow(nodes: &[Node], from: usize, to: &str) -> String {

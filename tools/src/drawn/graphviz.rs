@@ -35,10 +35,11 @@ pub fn svg(dot: &str) -> Picture {
         Err(error) => Picture::Failed(error.to_string()),
         Ok(ended) => {
             let said = String::from_utf8_lossy(&ended.stderr).trim_end().to_string();
+            let colon = if said.is_empty() { "" } else { ": " };
             if !ended.status.success() {
-                Picture::Failed(format!("ended by {}: {said}", ended.status))
+                Picture::Failed(format!("ended by {}{colon}{said}", ended.status))
             } else if ended.stdout.is_empty() {
-                Picture::Failed(format!("printed nothing: {said}"))
+                Picture::Failed(format!("printed nothing{colon}{said}"))
             } else {
                 Picture::Made { svg: ended.stdout, said }
             }

@@ -16,12 +16,14 @@ use crate::drawn::arrow::arrow;
 use crate::drawn::dot::{counted, label};
 use crate::drawn::tree::{Made, Node};
 
-const HEAD: &str = "\
-  graph [rankdir=TB, labelloc=t, nodesep=0.25, ranksep=0.16, margin=0.1,
+/// A page is some 17 cm wide: even nine relations side by side, drawn for six digits, then keep
+/// letters of seven points.
+const HEAD: &str =
+    "  graph [rankdir=TB, labelloc=t, ordering=in, nodesep=0.15, ranksep=0.14, margin=0.1,
          fontname=\"Helvetica,Arial,sans-serif\", fontsize=12]
-  node [shape=box, style=filled, margin=\"0.1,0.06\", height=0.3, penwidth=1.2,
+  node [shape=box, style=filled, margin=\"0.07,0.06\", height=0.3, penwidth=1.2,
         fontname=\"Helvetica,Arial,sans-serif\", fontsize=11]
-  edge [fontname=\"Helvetica,Arial,sans-serif\", fontsize=10, arrowsize=0.7]
+  edge [arrowsize=0.7]
 ";
 
 /// Nothing where the steps are no plan.

@@ -19,9 +19,9 @@ use crate::failure::Failure;
 use crate::loaded::Loaded;
 
 pub struct Explained {
-    plan: Plan,
-    sites: Vec<SitePart>,
-    lines: Vec<LinePart>,
+    pub plan: Plan,
+    pub sites: Vec<SitePart>,
+    pub lines: Vec<LinePart>,
 }
 
 impl Explained {

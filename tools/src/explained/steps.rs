@@ -8,12 +8,12 @@ use crate::explained::table::{wrapped, Side, Table};
 use crate::priced::{Joining, Operand, Price, Priced, Sending};
 
 /// Relations that are held together take so many characters of a line.
-const HELD_WIDTH: usize = 24;
+const HELD_WIDTH: usize = 17;
 
 pub fn table(names: &Names, steps: &[Priced]) -> String {
     let mut table = Table::new(&[
-        ("step", Side::Right),
-        ("", Side::Left),
+        ("", Side::Right),
+        ("step", Side::Left),
         ("where", Side::Left),
         ("held now", Side::Left),
         ("bytes", Side::Right),
