@@ -5,6 +5,7 @@ mod named;
 mod stand_in;
 
 use std::fs;
+use std::io::Write;
 use std::path::{Path, PathBuf};
 use std::process::{Command, Stdio};
 
@@ -35,34 +36,43 @@ fn with_names(relations: [&str; 4], sites: [&str; 3]) -> String {
     drawn::dot(&loaded.query, &loaded.names, &plan).expect("a tree")
 }
 
+/// With what means something in Graphviz's language.
+fn with_odd_names() -> String {
+    let relations = ["größen", "a\"b\\n", "<b>&amp;", "x\u{1}]>"];
+    with_names(relations, ["it's\\G", "łódź", "\\N\\\\L"])
+}
+
 #[test]
 fn names_are_drawn() {
     let usual = with_names(["customers", "orders", "items", "rebates"], ["north", "south", "east"]);
     held_to("draw-four-tables.dot", &usual);
-    let odd = with_names(["größen", "a\"b\\n", "<b>&amp;", "x\u{1}]>"], ["it's", "łódź", "\\N"]);
-    held_to("draw-four-tables-odd-names.dot", &odd);
+    held_to("draw-four-tables-odd-names.dot", &with_odd_names());
 }
 
-/// Where it is installed, Graphviz's own program takes every drawing and has nothing to say.
+/// What Graphviz's own program makes of it, without a word; nothing where it is not installed.
+fn picture(drawing: &str) -> Option<String> {
+    let mut dot = Command::new("dot");
+    dot.arg("-Tsvg").stdin(Stdio::piped()).stdout(Stdio::piped()).stderr(Stdio::piped());
+    let mut child = dot.spawn().ok()?;
+    let mut stdin = child.stdin.take().expect("standard input is piped");
+    stdin.write_all(drawing.as_bytes()).expect("it reads");
+    drop(stdin);
+    let ended = child.wait_with_output().expect("it ends");
+    assert!(ended.status.success(), "{drawing}");
+    assert_eq!(String::from_utf8_lossy(&ended.stderr), "", "{drawing}");
+    Some(String::from_utf8(ended.stdout).expect("UTF-8"))
+}
+
 #[test]
 fn graphviz_takes_the_drawings() {
-    let odd = with_names(["größen", "a\"b\\n", "<b>&amp;", "x\u{1}]>"], ["it's", "łódź", "\\N"]);
-    let drawings = EXAMPLES.map(|name| run(&["draw", &example(&format!("{name}.txt"))]).text());
-    for drawing in drawings.iter().chain([&odd]) {
-        let Ok(mut child) = Command::new("dot")
-            .arg("-Tsvg")
-            .stdin(Stdio::piped())
-            .stdout(Stdio::piped())
-            .stderr(Stdio::piped())
-            .spawn()
-        else {
-            return;
-        };
-        let stdin = child.stdin.take().expect("standard input is piped");
-        std::io::Write::write_all(&mut { stdin }, drawing.as_bytes()).expect("it reads");
-        let ended = child.wait_with_output().expect("it ends");
-        assert!(ended.status.success(), "{drawing}");
-        assert_eq!(String::from_utf8_lossy(&ended.stderr), "", "{drawing}");
+    for name in EXAMPLES {
+        let drawing = run(&["draw", &example(&format!("{name}.txt"))]).text();
+        assert!(picture(&drawing).is_none_or(|svg| svg.contains("<svg")));
+    }
+    let Some(svg) = picture(&with_odd_names()) else { return };
+    for name in [">größen<", ">a&quot;b\\n<", ">&lt;b&gt;&amp;amp;<", ">at łódź<", ">at \\N\\\\L<"]
+    {
+        assert!(svg.contains(name), "{name}: {svg}");
     }
 }
 

@@ -80,18 +80,20 @@ fn svg(out: &OsStr, dot: &str) -> Result<Done, Failure> {
             let noted = said.lines().map(|line| format!("dot: {line}\n")).collect();
             Ok(Done { noted, ..Done::default() })
         }
-        Picture::NotStarted(reason) => {
-            let beside = Path::new(out).with_extension("dot");
-            output::write(beside.as_os_str(), dot.as_bytes())?;
-            Err(Failure::Fault(format!(
-                "Graphviz's program 'dot' {reason}, so {} was not drawn; {} was written in its \
-                 place",
-                Path::new(out).display(),
-                beside.display()
-            )))
-        }
+        Picture::NotStarted(reason) => Err(beside(out, dot, &reason)),
         Picture::Failed(reason) => {
             Err(Failure::Fault(format!("Graphviz's program 'dot' made no picture: {reason}")))
         }
     }
+}
+
+/// The .dot is written in place of a picture that 'dot' did not start to make.
+fn beside(out: &OsStr, dot: &str, reason: &str) -> Failure {
+    let beside = Path::new(out).with_extension("dot");
+    let outcome = match output::write(beside.as_os_str(), dot.as_bytes()) {
+        Ok(()) => format!("{} was written in its place", beside.display()),
+        Err(failure) => failure.reason().to_string(),
+    };
+    let out = Path::new(out).display();
+    Failure::Fault(format!("Graphviz's program 'dot' {reason}, so {out} was not drawn; {outcome}"))
 }

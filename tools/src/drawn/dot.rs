@@ -10,6 +10,8 @@ pub fn escaped(text: &str) -> String {
             '>' => escaped.push_str("&gt;"),
             '"' => escaped.push_str("&quot;"),
             '\'' => escaped.push_str("&#39;"),
+            // A lone one would begin a word of its own, as \N does for the name of a box.
+            '\\' => escaped.push_str("\\\\"),
             // What such labels can't hold.
             '\u{fffe}' | '\u{ffff}' => escaped.push('\u{fffd}'),
             character if character.is_control() => escaped.push('\u{fffd}'),
