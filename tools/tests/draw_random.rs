@@ -1,17 +1,14 @@
 //! Drawings of random plans: every send and every join is there once, with its charge.
 
-use std::path::Path;
+mod random;
 
 use fanchuki::cheapest::{self, Cheapest};
 use fanchuki::drawn;
-use fanchuki::given::Given;
-use fanchuki::loaded::Loaded;
 use fanchuki::priced::Price;
-use reference::encode;
-use reference::generate::queries::{self, Extent};
+use random::{put, running, stated};
 use reference::names::Names;
-use reference::random::Random;
-use reference::stated::Form;
+
+const SEED: u64 = 72;
 
 /// The numbers that stand behind the word, as often as it is there.
 fn behind(text: &str, word: &str) -> Vec<u64> {
@@ -24,18 +21,10 @@ fn behind(text: &str, word: &str) -> Vec<u64> {
 
 #[test]
 fn charges_in_the_drawing_come_to_the_cost() {
-    let root = Path::new(env!("CARGO_MANIFEST_DIR")).join("..");
-    if std::env::var_os("FANCHUKI_PROGRAMS").is_none() {
-        std::env::set_var("FANCHUKI_PROGRAMS", root.join("target/bin"));
-    }
-    let q = std::fs::read(root.join("examples/q.query")).expect("the example");
-    let mut loaded = Loaded::load(Given::packed(q, Form::Sizes)).expect("Q is loaded");
+    let mut loaded = running();
     let (mut drawn_plans, mut sends, mut spared) = (0, 0, 0);
     for case in 0..1_500 {
-        let query = queries::query(&mut Random::for_case(72, case), &Extent::full());
-        let file = encode::encode(&query);
-        loaded.calls.load(&file, Form::Sizes).expect("an answer").expect("a load");
-        loaded.query = query;
+        put(&mut loaded, stated(SEED, case));
         let Ok(Cheapest::Plan(plan)) = cheapest::find(&mut loaded) else { continue };
         let text = drawn::dot(&loaded.query, &Names::default(), &plan).expect("a tree");
         let (sent, joined) = (behind(&text, "send: "), behind(&text, "costs "));

@@ -1,59 +1,20 @@
 //! Explanations of thousands of random queries, held to the rules and to the proved answers.
 
-use std::path::Path;
-use std::sync::Once;
+mod random;
 
 use fanchuki::cheapest::{self, Cheapest, Plan};
-use fanchuki::explained::{no_route, steps, Explained};
-use fanchuki::given::Given;
-use fanchuki::loaded::Loaded;
+use fanchuki::explained::{no_route, steps};
 use fanchuki::priced::Price;
-use reference::encode;
-use reference::generate::queries::{self, Extent};
-use reference::generate::rows;
-use reference::method::Method;
+use random::{put, running, stated};
 use reference::names::Names;
 use reference::query::Query;
-use reference::random::Random;
 use reference::rules::Stack;
 use reference::solve;
-use reference::stated::{Form, Stated};
+use reference::stated::Form;
 use reference::units::Charge;
 
 const SEED: u64 = 71;
 const QUERIES: u64 = 6_000;
-
-/// A running `calls` with Q's example in force, for all queries of a test.
-fn running() -> Loaded {
-    static TOLD: Once = Once::new();
-    let root = Path::new(env!("CARGO_MANIFEST_DIR")).join("..");
-    TOLD.call_once(|| {
-        if std::env::var_os("FANCHUKI_PROGRAMS").is_none() {
-            std::env::set_var("FANCHUKI_PROGRAMS", root.join("target/bin"));
-        }
-    });
-    let file = std::fs::read(root.join("examples/q.query")).expect("the example");
-    Loaded::load(Given::packed(file, Form::Sizes)).expect("Q is loaded")
-}
-
-/// Of all shapes and both forms, and of these with many ties.
-fn stated(case: u64) -> Stated {
-    let mut random = Random::for_case(SEED, case);
-    match case % 4 {
-        0 => rows::stated(&mut random, &Extent::full(), Form::Rows),
-        1 => queries::tied(&mut random, &Extent::full()).into(),
-        _ => queries::query(&mut random, &Extent::full()).into(),
-    }
-}
-
-/// In force from now on; its file.
-fn put(loaded: &mut Loaded, stated: Stated) -> Vec<u8> {
-    let file = encode::encode_stated(&stated);
-    let answer = loaded.calls.load(&file, stated.form()).expect("an answer").expect("a load");
-    loaded.query = stated.query;
-    loaded.subqueries = answer.subqueries as u64;
-    file
-}
 
 /// What was seen, so that a test that sees little fails.
 #[derive(Debug, Default)]
@@ -92,7 +53,7 @@ fn the_sum_is_the_proved_cost() {
     let mut loaded = running();
     let mut seen = Seen::default();
     for case in 0..QUERIES {
-        let stated = stated(case);
+        let stated = stated(SEED, case);
         let form = stated.form();
         put(&mut loaded, stated);
         match cheapest::find(&mut loaded) {
@@ -161,47 +122,4 @@ fn worth(price: &str) -> u64 {
         .collect();
     let [fixed, rate, parts @ ..] = &numbers[..] else { panic!("{price}") };
     fixed + rate * parts.iter().sum::<u64>()
-}
-
-#[test]
-fn the_next_best_is_the_models() {
-    let mut loaded = running();
-    let (mut lines, mut sites, mut dearer, mut none) = (0, 0, 0, 0);
-    for case in 0..600 {
-        let stated = stated(case);
-        let form = stated.form();
-        let file = put(&mut loaded, stated);
-        let Ok(Cheapest::Plan(plan)) = cheapest::find(&mut loaded) else { continue };
-        let explained =
-            Explained::find(&mut loaded, &file, form, plan.clone()).expect("an explanation");
-        for part in &explained.lines {
-            let mut other = loaded.query.clone();
-            other.line_mut(part.which.0, part.which.1).open = false;
-            assert_eq!(part.without, cost(&other), "case {case}, line {:?}", part.which);
-            lines += 1;
-            dearer += u64::from(part.without.is_some_and(|next| next > plan.cost));
-            none += u64::from(part.without.is_none());
-        }
-        for part in &explained.sites {
-            let mut other = loaded.query.clone();
-            other.sites[part.which].may_join = false;
-            assert_eq!(part.without, cost(&other), "case {case}, site {}", part.which);
-            sites += 1;
-        }
-        parts_make_the_whole(&explained);
-        assert_eq!(cheapest::find(&mut loaded), Ok(Cheapest::Plan(plan)), "case {case}");
-    }
-    assert!(lines > 500 && sites > 300, "{lines} {sites}");
-    assert!(dearer > 100 && none > 50, "{dearer} {none}");
-}
-
-fn cost(query: &Query) -> Option<Charge> {
-    solve::solve(query, Method::Rules).map(|plan| plan.cost)
-}
-
-/// Every charge falls to one site or one line.
-fn parts_make_the_whole(explained: &Explained) {
-    let sites: u64 = explained.sites.iter().map(|part| part.share.charge).sum();
-    let lines: u64 = explained.lines.iter().map(|part| part.share.charge).sum();
-    assert_eq!(sites + lines, explained.plan.cost.0);
 }
