@@ -3,6 +3,8 @@
 mod common;
 mod named;
 
+use std::time::{Duration, Instant};
+
 use common::{example, held_to, run, run_on, Run};
 use fanchuki::cheapest::{self, Cheapest};
 use fanchuki::explained::Explained;
@@ -80,4 +82,17 @@ fn names_are_told() {
     held_to("explain-four-tables-unicode.txt", &other);
     let long = "a_name_that_is_longer_than_its_column";
     held_to("explain-four-tables-long.txt", &with_names([long, "b", long, "d"], [long, "s", "t"]));
+}
+
+/// Nobody waits; of several runs the fastest counts, whatever else the machine does.
+#[test]
+fn the_star_of_nine_takes_under_50_milliseconds() {
+    let star = example("star-of-nine.txt");
+    let fastest = (0..10).map(|_| {
+        let start = Instant::now();
+        assert_eq!(run(&["explain", &star]).code, 0);
+        start.elapsed()
+    });
+    let fastest = fastest.min().expect("ten runs");
+    assert!(fastest < Duration::from_millis(50), "{fastest:?}");
 }

@@ -1,7 +1,7 @@
 //! The arrow from a result to where it is used, its label in its course, so that no arrow runs
 //! over a label.
 
-use crate::drawn::dot::{counted, label};
+use crate::drawn::labels::{counted, label};
 use crate::drawn::tree::{Carried, Node};
 
 const SENT: &str = "penwidth=1.8, color=\"#333333\"";

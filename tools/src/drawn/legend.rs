@@ -6,7 +6,7 @@ use reference::names::Names;
 use reference::query::Query;
 
 use crate::cheapest::Plan;
-use crate::drawn::dot::{counted, escaped};
+use crate::drawn::labels::{counted, escaped};
 use crate::drawn::palette;
 use crate::drawn::tree::Node;
 

@@ -2,8 +2,8 @@
 //! foot, a colour for each site, an arrow with its price for each send.
 
 pub mod arrow;
-pub mod dot;
 pub mod graphviz;
+pub mod labels;
 pub mod legend;
 pub mod palette;
 pub mod tree;
@@ -13,11 +13,11 @@ use reference::query::Query;
 
 use crate::cheapest::Plan;
 use crate::drawn::arrow::arrow;
-use crate::drawn::dot::{counted, label};
+use crate::drawn::labels::{counted, label};
 use crate::drawn::tree::{Made, Node};
 
-/// A page is some 17 cm wide: even nine relations side by side, drawn for six digits, then keep
-/// letters of seven points.
+/// A page is some 17 cm wide. So drawn, eight relations side by side with sizes and charges of
+/// six digits fit there with letters of seven points.
 const HEAD: &str =
     "  graph [rankdir=TB, labelloc=t, ordering=in, nodesep=0.15, ranksep=0.14, margin=0.1,
          fontname=\"Helvetica,Arial,sans-serif\", fontsize=12]

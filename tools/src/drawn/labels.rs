@@ -1,4 +1,4 @@
-//! Words of Graphviz's language.
+//! Labels in Graphviz's language.
 
 /// The text inside a label that is written like HTML.
 pub fn escaped(text: &str) -> String {
