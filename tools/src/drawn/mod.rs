@@ -8,6 +8,8 @@ pub mod legend;
 pub mod palette;
 pub mod tree;
 
+use std::iter;
+
 use reference::names::Names;
 use reference::query::Query;
 
@@ -15,6 +17,10 @@ use crate::cheapest::Plan;
 use crate::drawn::arrow::arrow;
 use crate::drawn::labels::{counted, label};
 use crate::drawn::tree::{Made, Node};
+use crate::explained::table::wrapped;
+
+/// A join's relations take so many characters of a line.
+const LINE_WIDTH: usize = 18;
 
 /// A page is some 17 cm wide. So drawn, eight relations side by side with sizes and charges of
 /// six digits fit there with letters of seven points.
@@ -58,13 +64,25 @@ fn box_of(query: &Query, names: &Names, node: &Node) -> String {
             (lines, "filled")
         }
         Made::Join { join, .. } => {
-            let ends = query.joins()[join];
-            let of = [ends.first, ends.second].map(|relation| names.relation(relation));
-            let heading = format!("join {join} ({}, {})", of[0], of[1]);
-            (vec![heading, at, format!("costs {}", node.charge.0), bytes], "filled,rounded")
+            let mut lines = join_lines(query, names, join);
+            lines.extend([at, format!("costs {}", node.charge.0), bytes]);
+            (lines, "filled,rounded")
         }
     };
     coloured(node.site, &lines, &format!("style=\"{style}\""))
+}
+
+/// The join with its two relations, in as many lines as these need.
+fn join_lines(query: &Query, names: &Names, join: usize) -> Vec<String> {
+    let ends = query.joins()[join];
+    let [first, second] = [ends.first, ends.second].map(|relation| names.relation(relation));
+    let one_line = format!("join {join} ({first}, {second})");
+    if one_line.chars().count() <= LINE_WIDTH {
+        return vec![one_line];
+    }
+    let both = wrapped(&format!("{first}, {second}"), LINE_WIDTH);
+    let both = both.lines().map(str::to_string);
+    iter::once(format!("join {join}")).chain(both).collect()
 }
 
 /// Where the whole result is wanted.
