@@ -1,0 +1,97 @@
+//! `fanchuki draw`, over the examples and with names.
+
+mod common;
+mod named;
+
+use std::io::Write;
+use std::process::{Command, Stdio};
+
+use common::{example, held_to, run};
+use fanchuki::cheapest::{self, Cheapest};
+use fanchuki::drawn;
+
+const EXAMPLES: [&str; 6] =
+    ["q", "chain-of-five", "longest-plan", "star-of-nine", "two-indexes", "chain-from-rows"];
+
+#[test]
+fn every_example_is_drawn() {
+    for name in EXAMPLES {
+        let drawn = run(&["draw", &example(&format!("{name}.txt"))]);
+        assert_eq!((drawn.code, drawn.said.as_str()), (0, ""), "{name}");
+        held_to(&format!("draw-{name}.dot"), &drawn.text());
+    }
+    let of_text = run(&["draw", &example("q.txt")]);
+    assert_eq!(of_text, run(&["draw", &example("q.query")]));
+    let of_text = run(&["draw", &example("chain-from-rows.txt")]);
+    assert_eq!(of_text, run(&["draw", &example("chain-from-rows.rows"), "--rows"]));
+}
+
+fn with_names(relations: [&str; 4], sites: [&str; 3]) -> String {
+    let (mut loaded, _) = named::loaded(relations, sites);
+    let Ok(Cheapest::Plan(plan)) = cheapest::find(&mut loaded) else { panic!("no plan") };
+    drawn::dot(&loaded.query, &loaded.names, &plan).expect("a tree")
+}
+
+/// With what means something in Graphviz's language.
+fn with_odd_names() -> String {
+    let relations = ["größen", "a\"b\\n", "<b>&amp;", "x\u{1}]>"];
+    with_names(relations, ["it's\\G", "łódź", "\\N\\\\L"])
+}
+
+#[test]
+fn names_are_drawn() {
+    let usual = with_names(["customers", "orders", "items", "rebates"], ["north", "south", "east"]);
+    held_to("draw-four-tables.dot", &usual);
+    held_to("draw-four-tables-odd-names.dot", &with_odd_names());
+}
+
+/// What Graphviz's own program makes of it, without a word; nothing where it is not installed.
+fn picture(drawing: &str) -> Option<String> {
+    let mut dot = Command::new("dot");
+    dot.arg("-Tsvg").stdin(Stdio::piped()).stdout(Stdio::piped()).stderr(Stdio::piped());
+    let mut child = dot.spawn().ok()?;
+    let mut stdin = child.stdin.take().expect("standard input is piped");
+    stdin.write_all(drawing.as_bytes()).expect("it reads");
+    drop(stdin);
+    let ended = child.wait_with_output().expect("it ends");
+    assert!(ended.status.success(), "{drawing}");
+    assert_eq!(String::from_utf8_lossy(&ended.stderr), "", "{drawing}");
+    Some(String::from_utf8(ended.stdout).expect("UTF-8"))
+}
+
+#[test]
+fn graphviz_takes_the_drawings() {
+    for name in EXAMPLES {
+        let drawing = run(&["draw", &example(&format!("{name}.txt"))]).text();
+        assert!(picture(&drawing).is_none_or(|svg| svg.contains("<svg")));
+    }
+    let Some(svg) = picture(&with_odd_names()) else { return };
+    for name in [">größen<", ">a&quot;b\\n<", ">&lt;b&gt;&amp;amp;<", ">at łódź<", ">at \\N\\\\L<"]
+    {
+        assert!(svg.contains(name), "{name}: {svg}");
+    }
+}
+
+#[test]
+fn bad_usage() {
+    let q = example("q.txt");
+    let wrong: [(&[&str], &str); 8] = [
+        (&["draw"], "the FILE is missing"),
+        (&["draw", &q, "plan.svg"], "'plan.svg' is one word too many"),
+        (&["draw", &q, "-o"], "-o needs a value"),
+        (&["draw", &q, "-o", "a.dot", "-o", "b.dot"], "-o is there twice"),
+        (&["draw", &q, "-o", "plan.png"], "'plan.png' ends neither in .dot nor in .svg"),
+        (&["draw", &q, "-o", "plan"], "'plan' ends neither in .dot nor in .svg"),
+        (&["draw", &q, "-o", ".svg"], "'.svg' ends neither in .dot nor in .svg"),
+        (&["draw", "no-such-file"], "no-such-file: "),
+    ];
+    for (words, reason) in wrong {
+        let ended = run(words);
+        assert_eq!((ended.code, ended.text()), (2, String::new()), "{words:?}");
+        assert!(ended.said.starts_with(&format!("fanchuki: {reason}")), "{}", ended.said);
+        assert!(ended.said.ends_with("'fanchuki draw --help' tells more\n"), "{}", ended.said);
+    }
+    let help = run(&["draw", "--help"]);
+    assert_eq!(help.code, 0);
+    assert!(help.text().contains("usage: fanchuki draw FILE [--rows] [-o OUT]"));
+}

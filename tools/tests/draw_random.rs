@@ -1,0 +1,49 @@
+//! Drawings of random plans: every send and every join is there once, with its charge.
+
+mod random;
+
+use fanchuki::cheapest::{self, Cheapest};
+use fanchuki::drawn;
+use fanchuki::priced::Price;
+use random::{put, running, stated};
+use reference::names::Names;
+
+const SEED: u64 = 72;
+
+/// The numbers that stand behind the word, as often as it is there.
+fn behind(text: &str, word: &str) -> Vec<u64> {
+    let number = |rest: &str| {
+        let digits: String = rest.chars().take_while(char::is_ascii_digit).collect();
+        digits.parse().ok()
+    };
+    text.split(word).skip(1).filter_map(number).collect()
+}
+
+#[test]
+fn charges_in_the_drawing_come_to_the_cost() {
+    let mut loaded = running();
+    let (mut drawn_plans, mut sends, mut spared) = (0, 0, 0);
+    for case in 0..1_500 {
+        put(&mut loaded, stated(SEED, case));
+        let Ok(Cheapest::Plan(plan)) = cheapest::find(&mut loaded) else { continue };
+        let text = drawn::dot(&loaded.query, &Names::default(), &plan).expect("a tree");
+        let (sent, joined) = (behind(&text, "send: "), behind(&text, "costs "));
+        let count =
+            |kind: fn(&Price) -> bool| plan.steps.iter().filter(|step| kind(&step.price)).count();
+        assert_eq!(sent.len(), count(|price| matches!(price, Price::Send(_))), "{text}");
+        assert_eq!(joined.len(), loaded.query.joins().len(), "{text}");
+        let sum = sent.iter().chain(&joined).sum::<u64>();
+        assert_eq!(behind(&text, "total cost "), [sum], "{text}");
+        assert_eq!(sum, plan.cost.0, "{text}");
+        let spares = count(|price| matches!(price, Price::Join(it) if it.spared().is_some()));
+        assert_eq!(text.matches("read spared").count(), spares, "{text}");
+        // A box for each relation, join and send, for each spared read, and for the result.
+        let nodes = loaded.query.relations.len() + joined.len() + sent.len() + spares + 1;
+        assert_eq!(text.matches("[label=").count(), nodes, "{text}");
+        (drawn_plans, sends, spared) = (drawn_plans + 1, sends + sent.len(), spared + spares);
+    }
+    assert!(
+        drawn_plans > 1_000 && sends > 2_500 && spared > 1_000,
+        "{drawn_plans} {sends} {spared}"
+    );
+}
