@@ -23,7 +23,7 @@ pub fn table(names: &Names, steps: &[Priced]) -> String {
     ]);
     for (place, priced) in steps.iter().enumerate() {
         table.add([
-            (place + 1).to_string(),
+            place.to_string(),
             step(names, priced.step),
             site(names, priced),
             wrapped(&names.set(priced.held.set), HELD_WIDTH),
