@@ -45,7 +45,7 @@ command line can't be carried out as it stands, 3 at a fault.
 /// Carries out a command line.
 pub fn run(words: &[OsString]) -> Result<Done, Failure> {
     let Some((first, rest)) = words.split_first() else {
-        return Err(Failure::Usage(format!("no subcommand\n{}", overview())));
+        return Err(Failure::Usage(format!("no subcommand\n{}", overview().trim_end())));
     };
     match first.to_str() {
         Some("--help" | "-h" | "help") => return help(rest),
@@ -70,7 +70,7 @@ fn find(name: &OsStr) -> Result<&'static Command, Failure> {
     let found = ALL.iter().find(|command| command.name == name);
     found.ok_or_else(|| {
         let name = name.to_string_lossy();
-        Failure::Usage(format!("no subcommand '{name}'\n{}", overview()))
+        Failure::Usage(format!("no subcommand '{name}'\n{}", overview().trim_end()))
     })
 }
 
