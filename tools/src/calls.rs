@@ -78,9 +78,10 @@ impl Calls {
         admitted: fn(&[&str]) -> Option<T>,
     ) -> Result<Result<T, Refused>, Failure> {
         let sent = self.stdin.write_all(&call.record());
-        sent.map_err(|_| self.gone())?;
+        // Where it takes no call any more, what it says last tells the most.
         let line = self.line()?;
-        answers::read(&line, admitted).ok_or_else(|| self.unexpected(&line))
+        let answer = answers::read(&line, admitted).filter(|_| sent.is_ok());
+        answer.ok_or_else(|| self.unexpected(&line))
     }
 
     fn line(&mut self) -> Result<String, Failure> {
@@ -97,7 +98,7 @@ impl Calls {
         }
     }
 
-    /// It takes no call or gives no answer any more. One that is ending already keeps its status.
+    /// It gives no answer any more. One that is ending already keeps its status.
     fn gone(&mut self) -> Failure {
         let _ = self.child.kill();
         match self.child.wait() {
