@@ -74,8 +74,8 @@ pub fn run_with(folder: &Path, words: &[&str]) -> Run {
 /// Each subcommand that runs a program of this folder ends with 3 and says this.
 pub fn all_fail(folder: &Path, said: &str) {
     let (q, rows, draft) = (example("q.txt"), example("chain-from-rows.txt"), example("draft.txt"));
-    let plan = folder.join("plan.txt");
-    fs::write(&plan, "load 0\nload 1\nsend 0\njoin 0\n").expect("the plan is written");
+    let plan = folder.join("q.plan");
+    fs::write(&plan, [4, 1, 0, 1, 1, 2, 0, 3, 0]).expect("the plan is written");
     let plan = plan.to_str().expect("a path in UTF-8");
     let lines: [&[&str]; 7] = [
         &["plan", &q],
