@@ -41,8 +41,9 @@ fn a_folder() {
 #[test]
 fn a_file_without_leave() {
     let file = scratch("unreadable.txt");
+    let _ = fs::remove_file(&file);
     fs::write(&file, "sites 0 to 2").expect("it is written");
-    fs::set_permissions(&file, Permissions::from_mode(0)).expect("it is changed");
+    fs::set_permissions(&file, Permissions::from_mode(0o000)).expect("it is changed");
     if File::open(&file).is_err() {
         all_told(&file, 2, "Permission denied");
     }
