@@ -16,8 +16,8 @@
 
 .PHONY: plan explain programs tool built install uninstall test outside soak bench kit
 
-# To the recipes by the environment, where a blank or a quote in a path is nothing special.
-export Q PREFIX DESTDIR LIBDIR INCLUDEDIR MANDIR
+# Q, PREFIX and the like reach the recipes by the environment, into which make puts what stands on its command line: there a
+# blank or a quote in a path is nothing special.
 
 ifeq ($(Q),)
 plan: kit

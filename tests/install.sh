@@ -60,6 +60,14 @@ pkg_config() { # WORDS..
     PKG_CONFIG_SYSROOT_DIR=$root PKG_CONFIG_LIBDIR=$root$libdir/pkgconfig pkg-config "$@" fanchuki
 }
 
+# It prints the steps of each example, as the program plan does below its heading.
+plans() { # WHAT COMMAND..
+    local file
+    for file in examples/*.query; do
+        same "$1 on $file" "$("${@:2}" "$file")" "$(target/bin/plan <"$file" | tail -n +2)"
+    done
+}
+
 needed() { # PROGRAM
     readelf -dW "$1" | sed -n 's/.*(NEEDED).*\[\(libfanchuki.*\)\]/\1/p'
 }
@@ -77,18 +85,18 @@ c() {
     ! grep -F "$root" "$root$libdir/pkgconfig/fanchuki.pc" || fail "the pkg-config file has DESTDIR in it"
     c_compiled plan-shared
     same "the shared object that C needs" "$(needed "$work/plan-shared")" "libfanchuki.so.$major"
-    same "C, shared" "$(LD_LIBRARY_PATH=$root$libdir "$work/plan-shared" examples/q.query)" "$steps"
+    LD_LIBRARY_PATH=$root$libdir plans "C, shared" "$work/plan-shared"
     gcc -o "$work/plan-archive" -I"$root$prefix/include" examples/plan.c "$root$libdir/libfanchuki.a"
     same "the shared object that C with the archive needs" "$(needed "$work/plan-archive")" ""
-    same "C, by the archive" "$("$work/plan-archive" examples/q.query)" "$steps"
+    plans "C, by the archive" "$work/plan-archive"
     [ -f "$(gcc -print-file-name=libc.a)" ] || { echo "no libc.a: nothing is linked with -static"; return; }
     c_compiled plan-static -static
-    same "C, static" "$("$work/plan-static" examples/q.query)" "$steps"
+    plans "C, static" "$work/plan-static"
 }
 
 python() {
     local found
-    same "Python" "$(LD_LIBRARY_PATH=$root$libdir python3 examples/plan.py examples/q.query)" "$steps"
+    LD_LIBRARY_PATH=$root$libdir plans Python python3 examples/plan.py
     found=$(LD_LIBRARY_PATH=$root$libdir python3 examples/plan.py examples/q.txt) && fail "Python ends with 0 on a refusal"
     same "Python on a text" "$found" "refused $(target/bin/plan <examples/q.txt | sed 's/refused //')"
 }
@@ -145,7 +153,6 @@ for program in pkg-config python3 gcc readelf nm; do
 done
 mkdir -p "$work"
 listing=$(target/bin/plan <examples/q.query)
-steps=$(tail -n +2 <<<"$listing")
 make -s tool
 install/shared.sh
 symbols
