@@ -1,8 +1,8 @@
 //! A run of the proved program `calls`: one planner, asked call by call.
 
+use std::fmt::Display;
 use std::io::{BufRead, BufReader, Read, Write};
 use std::os::unix::process::ExitStatusExt;
-use std::path::PathBuf;
 use std::process::{Child, ChildStdin, ChildStdout};
 
 use reference::limits::{LONGEST_PLAN, MOST_CELLS};
@@ -27,7 +27,6 @@ const SIGKILL: i32 = 9;
 
 /// The program, running; every answer is read before the next call is made.
 pub struct Calls {
-    program: PathBuf,
     child: Child,
     stdin: ChildStdin,
     stdout: BufReader<ChildStdout>,
@@ -39,7 +38,7 @@ impl Calls {
         let mut child = programs::start(&program)?;
         let stdin = child.stdin.take().expect("standard input is piped");
         let stdout = BufReader::new(child.stdout.take().expect("standard output is piped"));
-        Ok(Calls { program, child, stdin, stdout })
+        Ok(Calls { child, stdin, stdout })
     }
 
     pub fn load(&mut self, file: &[u8], form: Form) -> Result<Result<Loaded, Refused>, Failure> {
@@ -57,7 +56,7 @@ impl Calls {
         for expected in answers::after_solve(&solved) {
             let line = self.line()?;
             if line != *expected {
-                return Err(self.unexpected(&line));
+                return Err(unexpected(&line));
             }
         }
         Ok(solved)
@@ -81,7 +80,7 @@ impl Calls {
         // Where it takes no call any more, what it says last tells the most.
         let line = self.line()?;
         let answer = answers::read(&line, admitted).filter(|_| sent.is_ok());
-        answer.ok_or_else(|| self.unexpected(&line))
+        answer.ok_or_else(|| unexpected(&line))
     }
 
     fn line(&mut self) -> Result<String, Failure> {
@@ -91,10 +90,10 @@ impl Calls {
             Ok(_) if line.ends_with(b"\n") => {
                 line.pop();
                 String::from_utf8(line)
-                    .map_err(|line| self.unexpected(&String::from_utf8_lossy(line.as_bytes())))
+                    .map_err(|line| unexpected(&String::from_utf8_lossy(line.as_bytes())))
             }
-            Ok(_) => Err(self.unexpected(&String::from_utf8_lossy(&line))),
-            Err(error) => Err(self.failed(&error.to_string())),
+            Ok(_) => Err(unexpected(&String::from_utf8_lossy(&line))),
+            Err(error) => Err(failed(format!("gave no answer: {error}"))),
         }
     }
 
@@ -103,18 +102,10 @@ impl Calls {
         let _ = self.child.kill();
         match self.child.wait() {
             Ok(status) if status.signal() != Some(SIGKILL) => {
-                self.failed(&format!("no answer, and ended by {status}"))
+                failed(format!("ended without an answer, by {status}"))
             }
-            _ => self.failed("no answer"),
+            _ => failed("gave no answer"),
         }
-    }
-
-    fn unexpected(&self, line: &str) -> Failure {
-        self.failed(&format!("not an answer: {}", programs::quoted(line)))
-    }
-
-    fn failed(&self, reason: &str) -> Failure {
-        programs::failed(&self.program, reason)
     }
 }
 
@@ -124,6 +115,14 @@ impl Drop for Calls {
         let _ = self.child.kill();
         let _ = self.child.wait();
     }
+}
+
+fn unexpected(line: &str) -> Failure {
+    failed(format!("answered {}", programs::quoted(line)))
+}
+
+fn failed(reason: impl Display) -> Failure {
+    Failure::Fault(format!("the program 'calls' {reason}"))
 }
 
 /// What a record carries of a file or a plan. One that is longer than this is refused for what

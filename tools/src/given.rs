@@ -37,8 +37,7 @@ impl Given {
         let named = text::parse(&text::decoded(&bytes, &shown(name))?)
             .map_err(|faults| text::refused(&shown(name), &bytes, &faults))?;
         if rows && named.stated.form() == Form::Sizes {
-            let name = shown(name);
-            return Err(Failure::Usage(format!("--rows is for row counts, and {name} has sizes")));
+            return Err(Failure::Usage("--rows is for a packed file, and this is a text".into()));
         }
         let file = encode::encode_stated(&named.stated);
         Ok(Given { file, form: named.stated.form(), names: named.names, stated: Ok(named.stated) })

@@ -74,7 +74,7 @@ pub fn plan(file: &[u8]) -> Result<String, Failure> {
 }
 
 /// A fault of that program.
-pub fn failed(program: &Path, reason: impl Display) -> Failure {
+fn failed(program: &Path, reason: impl Display) -> Failure {
     Failure::Fault(format!("{}: {reason}", program.display()))
 }
 
@@ -82,5 +82,5 @@ pub fn failed(program: &Path, reason: impl Display) -> Failure {
 pub fn quoted(printed: &str) -> String {
     let front: String = printed.chars().take(MOST_QUOTED).collect();
     let rest = if front.len() < printed.len() { " and more" } else { "" };
-    format!("{front:?}{rest}")
+    format!("'{}'{rest}", front.escape_debug())
 }

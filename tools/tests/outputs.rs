@@ -9,7 +9,7 @@ use std::os::unix::fs::symlink;
 use std::process::{Command, Stdio};
 use std::sync::OnceLock;
 
-use common::{example, run, tool, Run};
+use common::{example, tool, Run};
 use told::{ended, is_told, run_all};
 
 /// Q's plan in bytes, as a file.
@@ -126,9 +126,11 @@ fn a_file_that_is_not_written_is_told() {
     let full = format!("{}/full.dot", env!("CARGO_TARGET_TMPDIR"));
     let _ = fs::remove_file(&full);
     symlink("/dev/full", &full).expect("the link is made");
-    for file in [&full, "/no/such/folder/plan.dot"] {
-        let found = run(&["draw", &example("q.txt"), "-o", file]);
-        assert_eq!((found.code, found.text().as_str()), (3, ""), "{file}: {}", found.said);
-        assert!(found.said.contains(&format!("{file} was not written: ")), "{}", found.said);
+    for words in command_lines() {
+        let is_written = ["draw", "pack", "unpack", "sizes"].contains(&words[0].as_str());
+        for file in [&full, "/no/such/folder/plan.dot"].iter().filter(|_| is_written) {
+            let found = run_all(&[&words[..], &["-o".into(), file.to_string()]].concat());
+            is_told(&found, 3, &format!("{file} was not written: "), &words[0]);
+        }
     }
 }

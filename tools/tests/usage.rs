@@ -3,12 +3,14 @@
 mod common;
 mod told;
 
-use std::ffi::{OsStr, OsString};
+use std::ffi::OsString;
 use std::fs;
 use std::os::unix::ffi::OsStringExt;
 
 use common::{example, run, run_on, tool, Run};
 use told::{ended, is_told, run_all, words, SUBCOMMANDS};
+
+const NOT_PACKED: &str = "--rows is for a packed file, and this is a text";
 
 fn is_usage(run: &Run, said: &str, what: &str) {
     is_told(run, 2, said, what);
@@ -40,13 +42,13 @@ fn unknown_options_are_told() {
 #[test]
 fn missing_words_are_told() {
     for (name, _) in SUBCOMMANDS {
-        is_usage(&run(&[name]), "missing", name);
-        is_usage(&run(&[name, "--"]), "missing", name);
+        is_usage(&run_all(&words(name, &[])), "missing", name);
+        is_usage(&run(&[name]), "", name);
+        is_usage(&run(&[name, "--"]), "", name);
     }
     let q = example("q.txt");
-    is_usage(&run(&["check", &q]), "missing", "check without a plan");
     for words in [&["draw", &q, "-o"][..], &["whatif", &q], &["whatif", &q, "--line"]] {
-        is_usage(&run(words), "", &format!("{words:?}"));
+        is_usage(&run(words), words.get(2).unwrap_or(&""), &format!("{words:?}"));
     }
 }
 
@@ -60,27 +62,30 @@ fn words_too_many_are_told() {
 
 #[test]
 fn an_option_is_there_once() {
+    let out = format!("{}/twice.dot", env!("CARGO_TARGET_TMPDIR"));
     for (name, options) in SUBCOMMANDS {
         if options.contains(&"--rows") {
             let words = words(name, &["--rows", &example("chain-from-rows.rows"), "--rows"]);
             is_usage(&run_all(&words), "--rows is there twice", name);
         }
+        if options.contains(&"-o") {
+            let file = if name == "unpack" { "q.query" } else { "chain-from-rows.txt" };
+            let words = words(name, &["-o", &out, &example(file), "-o", &out]);
+            is_usage(&run_all(&words), "-o is there twice", name);
+        }
     }
-    let picture = format!("{}/twice.dot", env!("CARGO_TARGET_TMPDIR"));
-    let words = ["draw", &example("q.txt"), "-o", &picture, "-o", &picture];
-    is_usage(&run(&words), "-o is there twice", "draw");
-    assert!(fs::metadata(&picture).is_err(), "{picture} was written");
+    assert!(fs::metadata(&out).is_err(), "{out} was written");
 }
 
 #[test]
 fn rows_are_not_sizes() {
     for name in ["plan", "explain", "draw", "check", "whatif"] {
         let file = example("q.txt");
-        is_usage(&run_all(&words(name, &["--rows", &file])), "--rows is for row counts", name);
+        is_usage(&run_all(&words(name, &["--rows", &file])), NOT_PACKED, name);
         let words = words(name, &["--rows", "-"]);
         let words: Vec<&str> = words.iter().map(String::as_str).collect();
         let text = fs::read(&file).expect("the example");
-        is_usage(&run_on(&words, &text), "standard input has sizes", name);
+        is_usage(&run_on(&words, &text), NOT_PACKED, name);
     }
 }
 
@@ -95,11 +100,12 @@ fn behind_two_hyphens_every_word_is_a_file() {
 #[test]
 fn words_need_not_be_text() {
     let strange = |bytes: &[u8]| OsString::from_vec(bytes.to_vec());
-    let ended = |words: &[&OsStr]| ended(tool().args(words));
-    is_usage(&ended(&[&strange(b"pl\xffan")]), "no subcommand", "a subcommand");
+    is_usage(&ended(tool().arg(strange(b"pl\xffan"))), "no subcommand", "a subcommand");
     for (name, _) in SUBCOMMANDS {
-        let words = [OsStr::new(name), &strange(b"--\xff"), OsStr::new("x")];
-        is_usage(&ended(&words), "--\u{fffd}", name);
+        let words = words(name, &["x"]);
+        let found = ended(tool().args(&words).arg(strange(b"--\xff")));
+        is_usage(&found, "--\u{fffd}", name);
     }
-    is_usage(&ended(&[OsStr::new("plan"), &strange(b"no\xfffile")]), "No such file", "a file");
+    let found = ended(tool().arg("plan").arg(strange(b"no\xfffile")));
+    is_usage(&found, "no\u{fffd}file: No such file", "a file");
 }

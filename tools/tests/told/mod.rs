@@ -16,9 +16,9 @@ pub const SUBCOMMANDS: [(&str, &[&str]); 9] = [
     ("draw", &["-o", "--rows"]),
     ("check", &["--rows"]),
     ("whatif", &["--line", "--rows"]),
-    ("pack", &[]),
-    ("unpack", &["--rows"]),
-    ("sizes", &[]),
+    ("pack", &["-o"]),
+    ("unpack", &["-o", "--rows"]),
+    ("sizes", &["-o", "--rows"]),
     ("room", &[]),
 ];
 
