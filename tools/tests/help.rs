@@ -1,4 +1,4 @@
-//! What `--help` tells of every subcommand, and that the manual page has its options.
+//! What `--help` tells of every subcommand, and that the manual page tells the same.
 
 mod common;
 mod told;
@@ -55,13 +55,25 @@ fn the_version_is_told() {
     is_told(&run(&["--version", "more"]), 2, "'more' is one word too many", "--version more");
 }
 
-#[test]
-fn the_manual_page_names_every_option() {
+/// The page's text without what only sets it, its words in order.
+fn page() -> String {
     let page = fs::read_to_string(root().join("install/fanchuki.1")).expect("the manual page");
-    let page = page.replace("\\-", "-");
+    let words = |line: &str| match line.split_once(' ') {
+        Some((".B" | ".I", words)) => words.to_string(),
+        Some((".BR" | ".RB" | ".RI" | ".IR" | ".BI", words)) => words.replace([' ', '"'], ""),
+        _ => line.to_string(),
+    };
+    page.replace("\\-", "-").replace("\\&", "").lines().map(words).collect::<Vec<_>>().join(" ")
+}
+
+#[test]
+fn the_manual_page_has_every_usage_and_option() {
+    let page = page();
     for (name, _) in SUBCOMMANDS {
-        for word in
-            help(name).split(|letter: char| letter.is_whitespace() || "[]'|,.".contains(letter))
+        let text = help(name);
+        let usage = text.lines().find_map(|line| line.strip_prefix("usage: ")).unwrap_or_default();
+        assert!(page.contains(&format!(" {usage} .br ")), "the page lacks '{usage}': {page}");
+        for word in text.split(|letter: char| letter.is_whitespace() || "[]'|,.;".contains(letter))
         {
             let is_option = word.len() > 1 && word.starts_with('-');
             assert!(!is_option || page.contains(word), "the page has no {word}, as {name} has");
