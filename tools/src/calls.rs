@@ -1,7 +1,9 @@
 //! A run of the proved program `calls`: one planner, asked call by call.
 
-use std::io::{BufRead, BufReader, Write};
-use std::process::{Child, ChildStdin, ChildStdout, Command, Stdio};
+use std::fmt::Display;
+use std::io::{BufRead, BufReader, Read, Write};
+use std::os::unix::process::ExitStatusExt;
+use std::process::{Child, ChildStdin, ChildStdout};
 
 use reference::limits::{LONGEST_PLAN, MOST_CELLS};
 use reference::planner::{Link, Loaded};
@@ -9,22 +11,19 @@ use reference::room::{Draft, Figures};
 use reference::script::Call;
 use reference::stated::Form;
 
+use crate::answers;
+pub use crate::answers::{Refused, Solved};
 use crate::failure::Failure;
 use crate::programs;
 
-/// A call's number of refusal, and the place where it has one.
-#[derive(Clone, Copy, Debug, PartialEq, Eq)]
-pub struct Refused {
-    pub number: u64,
-    pub place: Option<u64>,
-}
+/// The most bytes that a record carries.
+const MOST_CARRIED: usize = 65_535;
 
-/// What an admitted solve answers.
-#[derive(Clone, Debug, PartialEq, Eq)]
-pub enum Solved {
-    Plan { cost: u64, trials: u64, plan: Vec<u8> },
-    NoRoute { trials: u64 },
-}
+/// No answer is nearly as long.
+const LONGEST_LINE: u64 = 65_536;
+
+/// What ends a program at once.
+const SIGKILL: i32 = 9;
 
 /// The program, running; every answer is read before the next call is made.
 pub struct Calls {
@@ -36,52 +35,27 @@ pub struct Calls {
 impl Calls {
     pub fn start() -> Result<Calls, Failure> {
         let program = programs::find("calls")?;
-        let mut child = Command::new(&program)
-            .stdin(Stdio::piped())
-            .stdout(Stdio::piped())
-            .spawn()
-            .map_err(|error| Failure::Fault(format!("{}: {error}", program.display())))?;
+        let mut child = programs::start(&program)?;
         let stdin = child.stdin.take().expect("standard input is piped");
         let stdout = BufReader::new(child.stdout.take().expect("standard output is piped"));
         Ok(Calls { child, stdin, stdout })
     }
 
     pub fn load(&mut self, file: &[u8], form: Form) -> Result<Result<Loaded, Refused>, Failure> {
-        let line = self.ask(&Call::Load { form, file: file.to_vec() })?;
-        answer(&line, |words| match words[..] {
-            ["load", relations, subqueries] => Some(Loaded {
-                relations: relations.parse().ok()?,
-                subqueries: subqueries.parse().ok()?,
-            }),
-            _ => None,
-        })
+        self.ask(&Call::Load { form, file: front(file) }, answers::load)
     }
 
     pub fn link(&mut self, link: Link) -> Result<Result<(), Refused>, Failure> {
-        let line = self.ask(&Call::Link(link))?;
-        answer(&line, |words| matches!(words[..], ["link"]).then_some(()))
+        self.ask(&Call::Link(link), answers::link)
     }
 
     /// With areas that are always enough.
     pub fn solve(&mut self) -> Result<Result<Solved, Refused>, Failure> {
-        let line =
-            self.ask(&Call::Solve { cells: MOST_CELLS as u32, output: LONGEST_PLAN as u32 })?;
-        let solved = answer(&line, |words| match words[..] {
-            ["solved", cost, length, trials, output] => Some(Solved::Plan {
-                cost: cost.parse().ok()?,
-                trials: trials.parse().ok()?,
-                plan: bytes(output.get(..2 * length.parse::<usize>().ok()?)?)?,
-            }),
-            ["no-route", trials] => Some(Solved::NoRoute { trials: trials.parse().ok()? }),
-            _ => None,
-        })?;
-        let areas: &[&str] = match solved {
-            Ok(Solved::Plan { .. }) => &["cells OK"],
-            _ => &["cells OK", "output OK"],
-        };
-        for area in areas {
+        let call = Call::Solve { cells: MOST_CELLS as u32, output: LONGEST_PLAN as u32 };
+        let solved = self.ask(&call, answers::solve)?;
+        for expected in answers::after_solve(&solved) {
             let line = self.line()?;
-            if line != *area {
+            if line != *expected {
                 return Err(unexpected(&line));
             }
         }
@@ -90,37 +64,47 @@ impl Calls {
 
     /// The cost of the plan.
     pub fn check(&mut self, plan: &[u8]) -> Result<Result<u64, Refused>, Failure> {
-        let line = self.ask(&Call::Check { plan: plan.to_vec() })?;
-        answer(&line, |words| match words[..] {
-            ["check", cost] => cost.parse().ok(),
-            _ => None,
-        })
+        self.ask(&Call::Check { plan: front(plan) }, answers::check)
     }
 
     pub fn room(&mut self, draft: &Draft) -> Result<Result<Figures, Refused>, Failure> {
-        let line = self.ask(&Call::Room(draft.clone()))?;
-        answer(&line, |words| match words[..] {
-            ["room", subqueries, cells, trials] => Some(Figures {
-                subqueries: subqueries.parse().ok()?,
-                cells: cells.parse().ok()?,
-                trials: trials.parse().ok()?,
-            }),
-            _ => None,
-        })
+        self.ask(&Call::Room(draft.clone()), answers::room)
     }
 
-    fn ask(&mut self, call: &Call) -> Result<String, Failure> {
-        let sent = self.stdin.write_all(&call.record()).and_then(|()| self.stdin.flush());
-        sent.map_err(|error| Failure::Fault(format!("the program 'calls' took no call: {error}")))?;
-        self.line()
+    fn ask<T>(
+        &mut self,
+        call: &Call,
+        admitted: fn(&[&str]) -> Option<T>,
+    ) -> Result<Result<T, Refused>, Failure> {
+        let sent = self.stdin.write_all(&call.record());
+        // Where it takes no call any more, what it says last tells the most.
+        let line = self.line()?;
+        let answer = answers::read(&line, admitted).filter(|_| sent.is_ok());
+        answer.ok_or_else(|| unexpected(&line))
     }
 
     fn line(&mut self) -> Result<String, Failure> {
-        let mut line = String::new();
-        match self.stdout.read_line(&mut line) {
-            Ok(_) if line.ends_with('\n') => Ok(line.trim_end().to_string()),
-            Ok(_) => Err(Failure::Fault("the program 'calls' ended without an answer".into())),
-            Err(error) => Err(Failure::Fault(format!("the program 'calls': {error}"))),
+        let mut line = Vec::new();
+        match self.stdout.by_ref().take(LONGEST_LINE).read_until(b'\n', &mut line) {
+            Ok(0) => Err(self.gone()),
+            Ok(_) if line.ends_with(b"\n") => {
+                line.pop();
+                String::from_utf8(line)
+                    .map_err(|line| unexpected(&String::from_utf8_lossy(line.as_bytes())))
+            }
+            Ok(_) => Err(unexpected(&String::from_utf8_lossy(&line))),
+            Err(error) => Err(failed(format!("gave no answer: {error}"))),
+        }
+    }
+
+    /// It gives no answer any more. One that is ending already keeps its status.
+    fn gone(&mut self) -> Failure {
+        let _ = self.child.kill();
+        match self.child.wait() {
+            Ok(status) if status.signal() != Some(SIGKILL) => {
+                failed(format!("ended without an answer, by {status}"))
+            }
+            _ => failed("gave no answer"),
         }
     }
 }
@@ -133,30 +117,16 @@ impl Drop for Calls {
     }
 }
 
-fn answer<T>(
-    line: &str,
-    read: impl FnOnce(&[&str]) -> Option<T>,
-) -> Result<Result<T, Refused>, Failure> {
-    let words: Vec<&str> = line.split(' ').collect();
-    let refused = match words[..] {
-        ["refused", number] => number.parse().ok().map(|number| Refused { number, place: None }),
-        ["refused", number, place] => match (number.parse(), place.parse()) {
-            (Ok(number), Ok(place)) => Some(Refused { number, place: Some(place) }),
-            _ => None,
-        },
-        _ => None,
-    };
-    match refused {
-        Some(refused) => Ok(Err(refused)),
-        None => read(&words).map(Ok).ok_or_else(|| unexpected(line)),
-    }
-}
-
 fn unexpected(line: &str) -> Failure {
-    Failure::Fault(format!("the program 'calls' answered '{line}'"))
+    failed(format!("answered {}", programs::quoted(line)))
 }
 
-fn bytes(hex: &str) -> Option<Vec<u8>> {
-    let digit = |place: usize| u8::from_str_radix(hex.get(place..place + 2)?, 16).ok();
-    (0..hex.len()).step_by(2).map(digit).collect()
+fn failed(reason: impl Display) -> Failure {
+    Failure::Fault(format!("the program 'calls' {reason}"))
+}
+
+/// What a record carries of a file or a plan. One that is longer than this is refused for what
+/// stands far before: the longest query file has under 2,000 bytes, the longest plan under 100.
+fn front(bytes: &[u8]) -> Vec<u8> {
+    bytes[..bytes.len().min(MOST_CARRIED)].to_vec()
 }

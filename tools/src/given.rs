@@ -2,7 +2,7 @@
 
 use std::ffi::OsStr;
 use std::fs::File;
-use std::io::{self, Read};
+use std::io::{self, ErrorKind, Read};
 use std::path::Path;
 
 use reference::names::Names;
@@ -58,14 +58,18 @@ pub fn is_packed(bytes: &[u8]) -> bool {
 
 /// All bytes of the file of that name, or of standard input.
 pub fn read(name: &OsStr) -> Result<Vec<u8>, Failure> {
-    let failed = |error: io::Error| Failure::Usage(format!("{}: {error}", shown(name)));
+    let told = |error: io::Error| format!("{}: {error}", shown(name));
     let mut bytes = Vec::new();
     let read = if name == "-" {
         io::stdin().lock().take(MOST_BYTES + 1).read_to_end(&mut bytes)
     } else {
-        File::open(name).map_err(failed)?.take(MOST_BYTES + 1).read_to_end(&mut bytes)
+        let file = File::open(name).map_err(|error| Failure::Usage(told(error)))?;
+        file.take(MOST_BYTES + 1).read_to_end(&mut bytes)
     };
-    read.map_err(failed)?;
+    read.map_err(|error| match error.kind() {
+        ErrorKind::IsADirectory => Failure::Usage(told(error)),
+        _ => Failure::Fault(told(error)),
+    })?;
     if bytes.len() as u64 > MOST_BYTES {
         return Err(Failure::Refused(format!("{}: over {MOST_BYTES} bytes", shown(name))));
     }

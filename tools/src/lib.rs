@@ -3,6 +3,7 @@
 //! It plans, links and checks by the proved programs (`programs`, `calls`). The reference's
 //! model serves it for words, for prices taken apart and for drawings only.
 
+pub mod answers;
 pub mod calls;
 pub mod cheapest;
 pub mod commands;

@@ -1,8 +1,9 @@
 //! Standard output and files, written whole or told of.
 
 use std::ffi::OsStr;
-use std::fs;
+use std::fs::{self, File};
 use std::io::{self, Write};
+use std::os::fd::AsFd;
 use std::os::raw::c_int;
 use std::path::Path;
 use std::sync::atomic::{AtomicBool, Ordering};
@@ -40,9 +41,13 @@ pub fn print(bytes: &[u8]) -> Result<(), Failure> {
     if !OPEN.load(Ordering::Relaxed) {
         return Err(failed("standard output is closed".into()));
     }
-    let mut output = io::stdout().lock();
-    let written = output.write_all(bytes).and_then(|()| output.flush());
-    written.map_err(|error| failed(error.to_string()))
+    written(bytes).map_err(|error| failed(error.to_string()))
+}
+
+/// As to a file: `io::stdout` takes an output that is open for reading only for a written one.
+fn written(bytes: &[u8]) -> io::Result<()> {
+    let output = io::stdout().as_fd().try_clone_to_owned()?;
+    File::from(output).write_all(bytes)
 }
 
 /// All of it to the file of that name.

@@ -1,6 +1,6 @@
 //! The words of a command line behind the subcommand.
 
-use std::ffi::OsString;
+use std::ffi::{OsStr, OsString};
 
 use crate::failure::Failure;
 
@@ -13,8 +13,8 @@ pub struct Words {
 }
 
 impl Words {
-    /// Those of the options may be there, the second ones with a value behind them; behind `--`
-    /// every word is plain.
+    /// Those of the options may be there, the second ones with a value behind them, and the first
+    /// ones once; behind `--` every word is plain.
     pub fn take(words: &[OsString], flags: &[&str], valued: &[&str]) -> Result<Words, Failure> {
         let mut taken = Words::default();
         let mut words = words.iter();
@@ -22,6 +22,8 @@ impl Words {
             let name = word.to_string_lossy();
             if name == "--" {
                 taken.plain.extend(words.by_ref().cloned());
+            } else if flags.contains(&name.as_ref()) && taken.has(&name) {
+                return Err(twice(&name));
             } else if flags.contains(&name.as_ref()) {
                 taken.options.push((name.into_owned(), None));
             } else if valued.contains(&name.as_ref()) {
@@ -45,7 +47,7 @@ impl Words {
     pub fn value(&self, option: &str) -> Result<Option<&OsString>, Failure> {
         let mut found = self.options.iter().filter(|(name, _)| name == option);
         match (found.next(), found.next()) {
-            (Some(_), Some(_)) => Err(Failure::Usage(format!("{option} is there twice"))),
+            (Some(_), Some(_)) => Err(twice(option)),
             (first, _) => Ok(first.and_then(|(_, value)| value.as_ref())),
         }
     }
@@ -53,11 +55,18 @@ impl Words {
     /// The plain words, which must be so many.
     pub fn just<const COUNT: usize>(&self, what: &str) -> Result<[&OsString; COUNT], Failure> {
         let plain: Vec<&OsString> = self.plain.iter().collect();
-        plain.try_into().map_err(|plain: Vec<&OsString>| {
-            Failure::Usage(match plain.get(COUNT) {
-                None => format!("{what} is missing"),
-                Some(word) => format!("'{}' is one word too many", word.to_string_lossy()),
-            })
+        plain.try_into().map_err(|plain: Vec<&OsString>| match plain.get(COUNT) {
+            None => Failure::Usage(format!("{what} is missing")),
+            Some(word) => too_many(word),
         })
     }
+}
+
+fn twice(option: &str) -> Failure {
+    Failure::Usage(format!("{option} is there twice"))
+}
+
+/// The first word that has no place.
+pub fn too_many(word: &OsStr) -> Failure {
+    Failure::Usage(format!("'{}' is one word too many", word.to_string_lossy()))
 }

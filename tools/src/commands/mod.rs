@@ -10,10 +10,11 @@ mod sizes;
 mod unpack;
 mod whatif;
 
-use std::ffi::OsString;
+use std::ffi::{OsStr, OsString};
 
 use crate::done::Done;
 use crate::failure::Failure;
+use crate::words::too_many;
 
 pub struct Command {
     pub name: &'static str,
@@ -44,26 +45,53 @@ command line can't be carried out as it stands, 3 at a fault.
 /// Carries out a command line.
 pub fn run(words: &[OsString]) -> Result<Done, Failure> {
     let Some((first, rest)) = words.split_first() else {
-        return Err(Failure::Usage(format!("no subcommand\n{}", overview())));
+        return Err(Failure::Usage(format!("no subcommand\n{}", overview().trim_end())));
     };
-    let first = first.to_string_lossy();
-    match first.as_ref() {
-        "--help" | "-h" | "help" => return Ok(Done::printing(overview())),
-        "--version" => return Ok(Done::printing(version())),
+    match first.to_str() {
+        Some("--help" | "-h" | "help") => return help(rest),
+        Some("--version") => return version(rest),
         _ => {}
     }
-    let Some(command) = ALL.iter().find(|command| command.name == first) else {
-        return Err(Failure::Usage(format!("no subcommand '{first}'\n{}", overview())));
-    };
-    if rest.iter().any(|word| word == "--help" || word == "-h") {
-        return Ok(Done::printing(format!("{}{ENDS}", command.help)));
+    let command = find(first)?;
+    // Behind -- every word is a file's name.
+    let mut options = rest.iter().take_while(|word| *word != "--");
+    if options.any(|word| word == "--help" || word == "-h") {
+        return Ok(told(command));
     }
     (command.run)(rest).map_err(|failure| match failure {
         Failure::Usage(reason) => {
+<<<<<<< HEAD
             Failure::Usage(format!("{reason}\n'fanchuki {first} --help' tells more"))
         }
         other => other,
     })
+=======
+            Failure::Usage(format!("{reason}\n'fanchuki {} --help' tells more", command.name))
+        }
+        other => other,
+    })
+}
+
+fn find(name: &OsStr) -> Result<&'static Command, Failure> {
+    let found = ALL.iter().find(|command| command.name == name);
+    found.ok_or_else(|| {
+        let name = name.to_string_lossy();
+        Failure::Usage(format!("no subcommand '{name}'\n{}", overview().trim_end()))
+    })
+}
+
+/// Of all subcommands, or of the one that is named.
+fn help(words: &[OsString]) -> Result<Done, Failure> {
+    match words {
+        [] => Ok(Done::printing(overview())),
+        [name] => find(name).map(told),
+        [_, more, ..] => Err(too_many(more)),
+    }
+}
+
+fn told(command: &Command) -> Done {
+    Done::printing(format!("{}{ENDS}", command.help))
+>>>>>>> 9827c4f84f50c79515240493bd6e4aacbe07590f
 }
 
 fn overview() -> String {
@@ -72,9 +100,12 @@ fn overview() -> String {
         let purpose = command.help.lines().next().unwrap_or_default();
         text.push_str(&format!("  {:8} {purpose}\n", command.name));
     }
-    text + "\n'fanchuki SUBCOMMAND --help' tells more of each.\n"
+    text + "\n'fanchuki SUBCOMMAND --help' tells more of each, 'fanchuki --version' the version.\n"
 }
 
-fn version() -> String {
-    format!("fanchuki {}\n", env!("CARGO_PKG_VERSION"))
+fn version(words: &[OsString]) -> Result<Done, Failure> {
+    match words {
+        [] => Ok(Done::printing(format!("fanchuki {}\n", env!("CARGO_PKG_VERSION")))),
+        [more, ..] => Err(too_many(more)),
+    }
 }

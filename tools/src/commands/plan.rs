@@ -42,7 +42,8 @@ fn run(words: &[OsString]) -> Result<Done, Failure> {
 /// By the proved program `plan`, which takes ordinary files.
 fn by_plan(given: &Given) -> Result<Done, Failure> {
     let printed = programs::plan(&given.file)?;
-    let unexpected = || Failure::Fault(format!("the program 'plan' printed {printed:?}"));
+    let unexpected =
+        || Failure::Fault(format!("the program 'plan' printed {}", programs::quoted(&printed)));
     let mut lines = printed.lines();
     let heading = lines.next().ok_or_else(unexpected)?;
     match (heading.split(' ').collect::<Vec<_>>()[..].as_ref(), &given.stated) {
@@ -52,8 +53,9 @@ fn by_plan(given: &Given) -> Result<Done, Failure> {
         (["no", "route", "trials", _], Ok(_)) => {
             Ok(Done { code: 1, ..Done::printing(printed.clone()) })
         }
-        (["plan", _, "cost", _, "trials", _], Ok(_)) => {
+        (["plan", count, "cost", _, "trials", _], Ok(_)) => {
             let steps: Option<Vec<String>> = lines.map(|line| named(&given.names, line)).collect();
+            let steps = steps.filter(|steps| steps.len().to_string() == *count);
             let steps = steps.ok_or_else(unexpected)?;
             Ok(Done::printing(format!("{heading}\n{}", steps.concat())))
         }
