@@ -60,12 +60,6 @@ pub fn run(words: &[OsString]) -> Result<Done, Failure> {
     }
     (command.run)(rest).map_err(|failure| match failure {
         Failure::Usage(reason) => {
-<<<<<<< HEAD
-            Failure::Usage(format!("{reason}\n'fanchuki {first} --help' tells more"))
-        }
-        other => other,
-    })
-=======
             Failure::Usage(format!("{reason}\n'fanchuki {} --help' tells more", command.name))
         }
         other => other,
@@ -91,7 +85,6 @@ fn help(words: &[OsString]) -> Result<Done, Failure> {
 
 fn told(command: &Command) -> Done {
     Done::printing(format!("{}{ENDS}", command.help))
->>>>>>> 9827c4f84f50c79515240493bd6e4aacbe07590f
 }
 
 fn overview() -> String {
