@@ -47,7 +47,7 @@ impl Calls {
     }
 
     pub fn load(&mut self, file: &[u8], form: Form) -> Result<Result<Loaded, Refused>, Failure> {
-        let line = self.ask(&Call::Load { form, file: file.to_vec() })?;
+        let line = self.ask(&Call::Load { form, file: front(file) })?;
         answer(&line, |words| match words[..] {
             ["load", relations, subqueries] => Some(Loaded {
                 relations: relations.parse().ok()?,
@@ -90,7 +90,7 @@ impl Calls {
 
     /// The cost of the plan.
     pub fn check(&mut self, plan: &[u8]) -> Result<Result<u64, Refused>, Failure> {
-        let line = self.ask(&Call::Check { plan: plan.to_vec() })?;
+        let line = self.ask(&Call::Check { plan: front(plan) })?;
         answer(&line, |words| match words[..] {
             ["check", cost] => cost.parse().ok(),
             _ => None,
@@ -154,6 +154,11 @@ fn answer<T>(
 
 fn unexpected(line: &str) -> Failure {
     Failure::Fault(format!("the program 'calls' answered '{line}'"))
+}
+
+/// As much as a record holds. A file or a plan that goes on behind that is refused just so.
+fn front(bytes: &[u8]) -> Vec<u8> {
+    bytes.iter().copied().take(u16::MAX.into()).collect()
 }
 
 fn bytes(hex: &str) -> Option<Vec<u8>> {

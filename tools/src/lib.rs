@@ -3,15 +3,26 @@
 //! It plans, links and checks by the proved programs (`programs`, `calls`). The reference's
 //! model serves it for words, for prices taken apart and for drawings only.
 
+pub mod broken;
 pub mod calls;
+pub mod changes;
 pub mod commands;
 pub mod done;
 pub mod failure;
+pub mod file_walk;
 pub mod given;
+pub mod lines;
 pub mod listing;
 pub mod loaded;
+pub mod margins;
+pub mod near;
 pub mod output;
+pub mod plan_text;
 pub mod programs;
 pub mod refused_file;
 pub mod text;
+pub mod verdict;
+pub mod whatif_text;
+pub mod wording;
 pub mod words;
+pub mod written;
