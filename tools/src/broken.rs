@@ -89,20 +89,17 @@ impl Walk<'_> {
         let (Some(top), Some(Step::Send { to })) = (stack.held.last(), self.step(step)) else {
             return "nothing is held that could be sent".to_string();
         };
-        let (held, to_site) = (wording::held(self.names, top), self.names.the_site(to));
         let mut reasons = Vec::new();
         if top.origin == Origin::Sent {
-            reasons.push(format!("the top, {held}, was made by a send, and is not sent on"));
+            reasons.push("was made by a send and is not sent on".to_string());
         }
+        let [from, to_site] = [top.site, to].map(|site| self.names.the_site(site));
         if top.site == to {
-            reasons.push(format!("the top, {held}, stands at {to_site} already"));
+            reasons.push(format!("stands at {to_site} already"));
         } else if !self.query.line(top.site, to).open {
-            let from = self.names.the_site(top.site);
-            let top = wording::relations(self.names, top.set);
-            reasons
-                .push(format!("the line from {from}, where {top} stands, to {to_site} is closed"));
+            reasons.push(format!("needs the line from {from} to {to_site}, which is closed"));
         }
-        reasons.join("; ")
+        format!("the top, {}, {}", wording::held(self.names, top), reasons.join(", and "))
     }
 
     fn join(&self, step: usize) -> String {
@@ -139,10 +136,17 @@ impl Walk<'_> {
             return None;
         }
         let [first, second] = [link.first, link.second].map(|one| self.names.the_relation(one));
-        let [below, top] = [below, top].map(|set| wording::relations(self.names, set));
-        Some(format!(
-            "join {join} links {first} and {second}, of which {below} and {top} do not have one each"
-        ))
+        let [below_words, top_words] = [below, top].map(|set| wording::relations(self.names, set));
+        let missing = [link.first, link.second]
+            .into_iter()
+            .find(|&relation| !sets::holds(below | top, relation))
+            .map(|relation| self.names.the_relation(relation));
+        let why = match missing {
+            Some(missing) => format!("{missing} is in neither {below_words} nor {top_words}"),
+            None if link.within(top) => format!("both are in {top_words}"),
+            None => format!("both are in {below_words}"),
+        };
+        Some(format!("join {join} links {first} and {second}, and {why}"))
     }
 
     fn end(&self, count: usize) -> String {

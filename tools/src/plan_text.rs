@@ -127,18 +127,20 @@ fn argument(
     what: &str,
     names: &[Option<String>],
 ) -> Result<u8, Wrong> {
-    let mut rest = rest;
+    let is_name = |word: &str| names.iter().any(|name| name.as_deref() == Some(word));
+    let (mut last, mut rest) = (first, rest);
     for filler in fillers {
-        if let [(_, word), more @ ..] = rest {
-            if word == filler && !more.is_empty() {
-                rest = more;
+        match rest {
+            [word, more @ ..] if word.1 == *filler && !(more.is_empty() && is_name(word.1)) => {
+                (last, rest) = (*word, more);
             }
+            _ => {}
         }
     }
     match rest {
         [] => {
-            let behind = first.0 + first.1.chars().count();
-            Err((behind, format!("a {what} is missing behind '{}'", first.1)))
+            let behind = last.0 + last.1.chars().count();
+            Err((behind, format!("a {what} is missing behind '{}'", last.1)))
         }
         [_, (column, more), ..] => Err((*column, format!("'{more}' is one word too many"))),
         &[word] => named(word, what, names),
@@ -156,7 +158,7 @@ fn named((column, word): Word, what: &str, names: &[Option<String>]) -> Result<u
     let meant = near::nearest(word, known.clone());
     let reason = match meant {
         Some(meant) => format!("no {what} '{word}'; '{meant}' may be meant"),
-        None if known.clone().next().is_none() => format!("'{word}' is not a number of a {what}"),
+        None if known.clone().next().is_none() => format!("'{word}' is not a number"),
         None => format!("no {what} '{word}'; there are {}", known.collect::<Vec<_>>().join(", ")),
     };
     Err((column, reason))
