@@ -79,7 +79,7 @@ fn named(loaded: &Loaded, ends: Ends) -> String {
 pub fn no_margins(loaded: &Loaded, ends: Ends) -> String {
     let line = loaded.query.line(ends.0, ends.1);
     let (name, line) = (named(loaded, ends), lines::described(line));
-    format!("\n{name}, {line}: there is no route today that could use it\n")
+    format!("\n{name}, {line}: no route today, so no plan to measure its price by\n")
 }
 
 pub fn margins(loaded: &Loaded, ends: Ends, margins: Margins) -> String {
@@ -119,7 +119,7 @@ fn rise(Amount { what, now, most }: &Amount, to: u64, other: &Amount) -> String 
     } else if to == *now {
         format!("  up to {what} {to} and no further, {with}\n")
     } else {
-        format!("  up to {what} {to}, by {} more, {with}\n", to - now)
+        format!("  up to {what} {to}, {} more, {with}\n", to - now)
     }
 }
 
