@@ -4,10 +4,11 @@ use reference::limits::MOST_STEPS;
 use reference::names::Names;
 use reference::query::Query;
 use reference::refusal::Refusal;
-use reference::rules::{Held, Origin, Stack};
+use reference::rules::Stack;
 use reference::sets;
 use reference::step::Step;
 
+use crate::not_allowed;
 use crate::wording;
 
 /// The reason for a refusal of check, which is the model's for this plan.
@@ -17,8 +18,9 @@ pub fn reason(query: &Query, names: &Names, plan: &[u8], refusal: Refusal) -> St
         Refusal::PlanLength => walk.length(),
         Refusal::UnknownStep { step } => walk.unknown(step),
         Refusal::LoadedBefore { step } => walk.loaded_before(step),
-        Refusal::SendNotAllowed { step } => walk.send(step),
-        Refusal::JoinNotAllowed { step } => walk.join(step),
+        Refusal::SendNotAllowed { step } | Refusal::JoinNotAllowed { step } => {
+            not_allowed::reason(query, names, &walk.stack(step).held, walk.step(step))
+        }
         Refusal::WrongEnd { count } => walk.end(count),
         other => format!("{other:?}"),
     }
@@ -82,71 +84,6 @@ impl Walk<'_> {
         let first = (0..step).find(|&before| self.bytes(before) == [1, relation]);
         let relation = self.names.the_relation(usize::from(relation));
         format!("{relation} was loaded before, at step {}", first.unwrap_or_default())
-    }
-
-    fn send(&self, step: usize) -> String {
-        let stack = self.stack(step);
-        let (Some(top), Some(Step::Send { to })) = (stack.held.last(), self.step(step)) else {
-            return "nothing is held that could be sent".to_string();
-        };
-        let mut reasons = Vec::new();
-        if top.origin == Origin::Sent {
-            reasons.push("was made by a send and is not sent on".to_string());
-        }
-        let [from, to_site] = [top.site, to].map(|site| self.names.the_site(site));
-        if top.site == to {
-            reasons.push(format!("stands at {to_site} already"));
-        } else if !self.query.line(top.site, to).open {
-            reasons.push(format!("needs the line from {from} to {to_site}, which is closed"));
-        }
-        format!("the top, {}, {}", wording::held(self.names, top), reasons.join(", and "))
-    }
-
-    fn join(&self, step: usize) -> String {
-        let stack = self.stack(step);
-        let (below, top) = match stack.held[..] {
-            [] => return "nothing is held, and a join takes two".to_string(),
-            [one] => {
-                let one = wording::held(self.names, &one);
-                return format!("only {one} is held, and a join takes two");
-            }
-            [.., below, top] => (below, top),
-        };
-        let mut reasons = Vec::new();
-        let both = [below, top].map(|held| wording::held(self.names, &held));
-        if below.site != top.site {
-            reasons.push(format!("{} and {} do not stand at one site", both[0], both[1]));
-        } else if !self.query.sites[top.site].may_join {
-            let site = self.names.the_site(top.site);
-            let [below, top] = [below, top].map(|held| wording::relations(self.names, held.set));
-            reasons.push(format!("{site}, where {below} and {top} stand, may not join"));
-        }
-        reasons.extend(self.not_linked(step, [below, top]));
-        reasons.join("; ")
-    }
-
-    /// Where the join does not lead from the one to the other.
-    fn not_linked(&self, step: usize, both: [Held; 2]) -> Option<String> {
-        let Some(Step::Join { join }) = self.step(step) else {
-            return None;
-        };
-        let link = self.query.joins()[join];
-        let [below, top] = both.map(|held| held.set);
-        if link.between(below, top) {
-            return None;
-        }
-        let [first, second] = [link.first, link.second].map(|one| self.names.the_relation(one));
-        let [below_words, top_words] = [below, top].map(|set| wording::relations(self.names, set));
-        let missing = [link.first, link.second]
-            .into_iter()
-            .find(|&relation| !sets::holds(below | top, relation))
-            .map(|relation| self.names.the_relation(relation));
-        let why = match missing {
-            Some(missing) => format!("{missing} is in neither {below_words} nor {top_words}"),
-            None if link.within(top) => format!("both are in {top_words}"),
-            None => format!("both are in {below_words}"),
-        };
-        Some(format!("join {join} links {first} and {second}, and {why}"))
     }
 
     fn end(&self, count: usize) -> String {

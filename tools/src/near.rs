@@ -7,7 +7,7 @@ const LONGEST: usize = 64;
 /// wrong, missing, too many or swapped with the next, and in a short word one.
 pub fn nearest<'a>(word: &str, candidates: impl IntoIterator<Item = &'a str>) -> Option<&'a str> {
     let length = word.chars().count();
-    if length < 2 || length > LONGEST {
+    if !(2..=LONGEST).contains(&length) {
         return None;
     }
     let most = (length / 3).max(1);
