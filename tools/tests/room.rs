@@ -1,10 +1,7 @@
 //! `fanchuki room`: the figures are the proved program's, and a refusal has its words.
 
 mod common;
-
-use std::fs;
-use std::os::unix::fs::PermissionsExt;
-use std::path::Path;
+mod fake;
 
 use common::{example, run, run_on, tool};
 use reference::encode;
@@ -122,41 +119,26 @@ fn a_text_s_faults_are_told() {
     assert_eq!(room(b"\xff").0, 1);
 }
 
-/// What becomes of a program in the place of `calls` that runs this.
-fn with_program(name: &str, words: &str) -> (i32, String) {
-    let folder = Path::new(env!("CARGO_TARGET_TMPDIR")).join(format!("programs-{name}"));
-    fs::create_dir_all(&folder).expect("a folder");
-    let program = folder.join("calls");
-    fs::write(&program, format!("#!/bin/sh\n{words}\n")).expect("a program");
-    fs::set_permissions(&program, fs::Permissions::from_mode(0o755)).expect("it may run");
-    let mut command = tool();
-    command.env("FANCHUKI_PROGRAMS", &folder).args(["room", &example("draft.txt")]);
-    let ended = command.output().expect("the tool starts");
-    assert!(ended.stdout.is_empty());
-    let code = ended.status.code().expect("no signal ends it");
-    (code, String::from_utf8(ended.stderr).expect("UTF-8"))
-}
-
 #[test]
 fn only_a_right_answer_is_taken() {
-    for (name, words) in [
-        ("silent", "true"),
-        ("failing", "exit 3"),
-        ("killed", "kill -s SEGV $$"),
-        ("short", "echo room 11 33"),
-        ("long", "echo room 11 33 36 1"),
-        ("no-number", "echo room 11 33 x"),
-        ("negative", "echo room 11 33 -36"),
-        ("other-call", "echo load 11"),
-        ("no-line", "printf 'room 11 33 36'"),
-        ("other-figures", "echo room 11 33 35"),
-        ("refusing", "echo refused 4"),
+    for words in [
+        "true",
+        "exit 3",
+        "kill -s SEGV $$",
+        "echo room 11 33",
+        "echo room 11 33 36 1",
+        "echo room 11 33 x",
+        "echo room 11 33 -36",
+        "echo load 11",
+        "printf 'room 11 33 36'",
+        "echo room 11 33 35",
+        "echo refused 4",
     ] {
-        let (code, said) = with_program(name, words);
-        assert_eq!(code, 3, "{name}: {said}");
+        let (code, printed, said) = fake::run(words, &["room", &example("draft.txt")]);
+        assert_eq!((code, printed.as_str()), (3, ""), "{words}: {said}");
         assert!(said.starts_with("fanchuki: the pro") && said.lines().count() == 1, "{said}");
     }
     let mut command = tool();
     command.env("FANCHUKI_PROGRAMS", "/no/such/folder").args(["room", &example("draft.txt")]);
-    assert_eq!(command.status().expect("the tool starts").code(), Some(3));
+    assert_eq!(command.output().expect("the tool starts").status.code(), Some(3));
 }
