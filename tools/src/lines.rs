@@ -39,7 +39,7 @@ pub fn replace(loaded: &mut Loaded, ends: Ends, line: Line) -> Result<(), Failur
             *loaded.query.line_mut(ends.0, ends.1) = line;
             Ok(())
         }
-        Err(refused) => Err(Failure::Fault(format!("link answers {refused:?}"))),
+        Err(refused) => Err(Failure::Fault(format!("link answers refused {}", refused.number))),
     }
 }
 
@@ -47,9 +47,12 @@ pub fn replace(loaded: &mut Loaded, ends: Ends, line: Line) -> Result<(), Failur
 pub fn solve(loaded: &mut Loaded) -> Result<Solved, Failure> {
     let solved = loaded.solve()?;
     if let Solved::Plan { cost, plan, .. } = &solved {
-        let own = check::check(&loaded.query, plan);
-        if own != Ok(Charge(*cost)) {
-            let reason = format!("the proved solve answers {cost}, and the tool comes to {own:?}");
+        let own = check::check(&loaded.query, plan).map_or_else(
+            |refusal| format!("refused {}", refusal.number()),
+            |Charge(cost)| cost.to_string(),
+        );
+        if own != cost.to_string() {
+            let reason = format!("the proved solve answers {cost}, the tool comes to {own}");
             return Err(Failure::Fault(reason));
         }
     }

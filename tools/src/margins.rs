@@ -39,9 +39,7 @@ fn rise(loaded: &mut Loaded, today: &[u8], ends: Ends, line: Line) -> Result<Mar
         let checked = loaded.calls.check(today)?;
         match (lines::solve(loaded)?, checked) {
             (Solved::Plan { cost, .. }, Ok(checked)) => Ok(cost == checked),
-            (solved, checked) => Err(Failure::Fault(format!(
-                "today's plan is checked with {checked:?}, and solve answers {solved:?}"
-            ))),
+            _ => Err(Failure::Fault("today's plan is refused at another price of its line".into())),
         }
     };
     let fixed = largest(line.fixed.0, MOST_FIXED, |fixed| cheapest(with_fixed(line, fixed)))?;

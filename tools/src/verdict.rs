@@ -24,9 +24,22 @@ pub fn verdict(loaded: &mut Loaded, plan: &PlanText) -> Result<Done, Failure> {
             let printed = refused(loaded, plan, own);
             Ok(Done { code: 1, ..Done::printing(printed) })
         }
-        (proved, own) => Err(Failure::Fault(format!(
-            "the proved check answers {proved:?}, and the tool comes to {own:?}"
-        ))),
+        (proved, own) => {
+            let proved = told(proved.map_err(|refused| (refused.number, refused.place)));
+            let place = |refusal: Refusal| refusal.place().map(|place| place as u64);
+            let own = told(own.map(|cost| cost.0).map_err(|it| (it.number(), place(it))));
+            Err(Failure::Fault(format!(
+                "the proved check answers {proved}, the tool comes to {own}"
+            )))
+        }
+    }
+}
+
+fn told(answer: Result<u64, (u64, Option<u64>)>) -> String {
+    match answer {
+        Ok(cost) => format!("cost {cost}"),
+        Err((number, Some(place))) => format!("refused {number} at {place}"),
+        Err((number, None)) => format!("refused {number}"),
     }
 }
 

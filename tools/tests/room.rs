@@ -119,26 +119,44 @@ fn a_text_s_faults_are_told() {
     assert_eq!(room(b"\xff").0, 1);
 }
 
+/// A program that ends after its answer, or without one.
 #[test]
-fn only_a_right_answer_is_taken() {
-    for words in [
-        "true",
-        "exit 3",
-        "kill -s SEGV $$",
-        "echo room 11 33",
-        "echo room 11 33 36 1",
-        "echo room 11 33 x",
-        "echo room 11 33 -36",
-        "echo load 11",
-        "printf 'room 11 33 36'",
-        "echo room 11 33 35",
-        "echo refused 4",
-    ] {
-        let (code, printed, said) = fake::run(words, &["room", &example("draft.txt")]);
-        assert_eq!((code, printed.as_str()), (3, ""), "{words}: {said}");
-        assert!(said.starts_with("fanchuki: the pro") && said.lines().count() == 1, "{said}");
+fn a_program_that_ends_is_a_fault() {
+    for calls in ["true", "exit 3", "kill -s SEGV $$", "printf 'room 11 33 36'"] {
+        let (code, printed, said) = fake::run(calls, &["room", &example("draft.txt")]);
+        assert_eq!((code, printed.as_str()), (3, ""), "{calls}: {said}");
+        assert!(said.starts_with("fanchuki: the program 'calls' "), "{said}");
     }
     let mut command = tool();
     command.env("FANCHUKI_PROGRAMS", "/no/such/folder").args(["room", &example("draft.txt")]);
     assert_eq!(command.output().expect("the tool starts").status.code(), Some(3));
+}
+
+#[test]
+fn only_a_right_answer_is_taken() {
+    let answered = |line: &str| {
+        let calls = format!("echo '{line}'; exec cat >/dev/null");
+        fake::run(&calls, &["room", &example("draft.txt")])
+    };
+    assert_eq!(answered("room 11 33 36"), figures(11, 33, 36));
+    for (line, said) in [
+        ("room 11 33", "the program 'calls' answered 'room 11 33'"),
+        ("room 11 33 36 1", "the program 'calls' answered 'room 11 33 36 1'"),
+        ("room 11 33 x", "the program 'calls' answered 'room 11 33 x'"),
+        ("room 11 33 -36", "the program 'calls' answered 'room 11 33 -36'"),
+        ("load 11", "the program 'calls' answered 'load 11'"),
+        (
+            "room 11 33 35",
+            "the proved room answers 11 subqueries, 33 cells and 35 trials, \
+             the tool comes to 11 subqueries, 33 cells and 36 trials",
+        ),
+        (
+            "refused 4",
+            "the proved room answers refused 4, \
+             the tool comes to 11 subqueries, 33 cells and 36 trials",
+        ),
+    ] {
+        let expected = (3, String::new(), format!("fanchuki: {said}\n"));
+        assert_eq!(answered(line), expected);
+    }
 }

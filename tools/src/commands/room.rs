@@ -4,7 +4,7 @@ use std::ffi::OsString;
 
 use reference::limits::{MOST_RELATIONS, MOST_SITES};
 use reference::names::Names;
-use reference::room::{self, Draft};
+use reference::room::{self, Draft, Figures};
 use reference::tree::Join;
 
 use crate::calls::Calls;
@@ -60,17 +60,31 @@ fn packed(file: &[u8]) -> Option<Draft> {
 fn figures(draft: &Draft, names: &Names) -> Result<Done, Failure> {
     let proved = Calls::start()?.room(draft)?;
     match (proved, room::room(draft)) {
-        (Ok(proved), Ok(own)) if proved == own => Ok(Done::printing(format!(
-            "subqueries {}\ncells {}\ntrials {}\n",
-            proved.subqueries, proved.cells, proved.trials
-        ))),
+        (Ok(proved), Ok(own)) if proved == own => {
+            let Figures { subqueries, cells, trials } = proved;
+            let printed = format!("subqueries {subqueries}\ncells {cells}\ntrials {trials}\n");
+            Ok(Done::printing(printed))
+        }
         (Err(proved), Err(own)) if proved.number == own.number() => {
             let reason = reason(draft, names, proved.number);
             Err(Failure::Refused(format!("refused {}: {reason}", proved.number)))
         }
-        (proved, own) => Err(Failure::Fault(format!(
-            "the proved room answers {proved:?}, and the tool comes to {own:?}"
-        ))),
+        (proved, own) => {
+            let proved = told(proved.map_err(|refused| refused.number));
+            let own = told(own.map_err(|refusal| refusal.number()));
+            Err(Failure::Fault(format!(
+                "the proved room answers {proved}, the tool comes to {own}"
+            )))
+        }
+    }
+}
+
+fn told(answer: Result<Figures, u64>) -> String {
+    match answer {
+        Ok(Figures { subqueries, cells, trials }) => {
+            format!("{subqueries} subqueries, {cells} cells and {trials} trials")
+        }
+        Err(number) => format!("refused {number}"),
     }
 }
 

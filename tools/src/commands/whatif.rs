@@ -113,9 +113,14 @@ fn apply(loaded: &mut Loaded, change: &Change) -> Result<(Ends, Line), Failure> 
         (Err(number), Some((own, words))) if number == own => {
             Err(Failure::Refused(format!("refused {number}: {words}")))
         }
-        (proved, own) => Err(Failure::Fault(format!(
-            "the proved link answers {proved:?}, and the tool comes to {own:?}"
-        ))),
+        (proved, own) => {
+            let told =
+                |answer: Option<u64>| answer.map_or("done".into(), |it| format!("refused {it}"));
+            let (proved, own) = (told(proved.err()), told(own.map(|(number, _)| number)));
+            Err(Failure::Fault(format!(
+                "the proved link answers {proved}, the tool comes to {own}"
+            )))
+        }
     }
 }
 
