@@ -84,7 +84,7 @@ fn a_chain_with_names_is_stored() {
         sites: vec![some("north"), some("south"), some("east")],
         relations: vec![some("customers"), some("orders"), some("items")],
     };
-    let texts: [&str; 10] = [
+    let texts: [&str; 11] = [
         "load customers\nsend to south\nload orders\njoin 0\n",
         "load customers\nsend east\n",
         "load customers\nsend south\nsend south\n",
@@ -92,6 +92,7 @@ fn a_chain_with_names_is_stored() {
         "load orders\nsend north\nload items\nsend north\njoin 0\n",
         "load customers\nload orders\nsend north\njoin 0\nload items\nsend north\njoin 0\n",
         "load orders\n\nload items\n# again\nload orders\n",
+        "load items\nload orders\nload orders\n",
         "load customers\n",
         "load orders\nload customers\nload items\n",
         "load items\njoin 1\n",

@@ -45,16 +45,30 @@ fn the_right_answers_are_taken() {
 
 #[test]
 fn another_verdict_of_check() {
-    is_fault(check(RIGHT, &["check 22"]));
-    is_fault(check(RIGHT, &["refused 11 3"]));
-    is_fault(check(WRONG, &["refused 11 1"]));
-    is_fault(check(WRONG, &["refused 11"]));
-    is_fault(check(WRONG, &["refused 10 2"]));
-    is_fault(check(WRONG, &["check 21"]));
-    is_fault(check(RIGHT, &["check 21", &solved(22), "cells OK"]));
-    is_fault(check(RIGHT, &["check 21", "no-route 3", "cells OK", "output OK"]));
-    is_fault(check(RIGHT, &["check 21", &solved(21), "cells CHANGED"]));
+    for (plan, answer, said) in [
+        (RIGHT, "check 22", "answers cost 22, the tool comes to cost 21"),
+        (RIGHT, "refused 11 3", "answers refused 11 at 3, the tool comes to cost 21"),
+        (WRONG, "refused 11 1", "answers refused 11 at 1, the tool comes to refused 11 at 2"),
+        (WRONG, "refused 11", "answers refused 11, the tool comes to refused 11 at 2"),
+        (WRONG, "refused 10 2", "answers refused 10 at 2, the tool comes to refused 11 at 2"),
+        (WRONG, "check 21", "answers cost 21, the tool comes to refused 11 at 2"),
+    ] {
+        let said = format!("fanchuki: the proved check {said}\n");
+        assert_eq!(check(plan, &[answer]), (3, String::new(), said));
+    }
     is_fault(check(RIGHT, &["checked 21"]));
+}
+
+#[test]
+fn a_solve_that_does_not_go_with_check() {
+    for (answer, said) in [
+        (vec![&solved(22)[..], "cells OK"], "check answers 21, and solve 22"),
+        (vec!["no-route 3", "cells OK", "output OK"], "check answers 21, and solve no route"),
+        (vec![&solved(21), "cells CHANGED"], "the program 'calls' answered 'cells CHANGED'"),
+    ] {
+        let lines = [&["check 21"], &answer[..]].concat();
+        assert_eq!(check(RIGHT, &lines), (3, String::new(), format!("fanchuki: {said}\n")));
+    }
 }
 
 fn whatif(words: &[&str], lines: &[&str]) -> (i32, String, String) {
@@ -65,19 +79,34 @@ fn whatif(words: &[&str], lines: &[&str]) -> (i32, String, String) {
 
 #[test]
 fn another_answer_of_solve_or_link() {
-    let today = solved(21);
-    is_fault(whatif(&["1", "0"], &[LOAD, &solved(20), "cells OK"]));
-    is_fault(whatif(&["1", "0"], &[LOAD, &today, "cells OK", "refused 6"]));
-    is_fault(whatif(&["1", "3"], &[LOAD, &today, "cells OK", "link"]));
-    is_fault(whatif(&["1", "3"], &[LOAD, &today, "cells OK", "refused 3"]));
-    is_fault(whatif(&["1", "0", "rate", "1001"], &[LOAD, &today, "cells OK", "refused 6"]));
-    let dearer = [LOAD, &today, "cells OK", "link", &today, "cells OK"];
-    is_fault(whatif(&["1", "0", "fixed", "2"], &dearer));
-    let (code, _, said) = whatif(&["1", "3"], &[LOAD, &today, "cells OK", "refused 6"]);
-    assert_eq!(
-        (code, said.as_str()),
-        (1, "fanchuki: refused 6: there is no site 3: must be 0 to 2\n")
-    );
+    let (today, ok) = (solved(21), "cells OK");
+    let cheaper = solved(20);
+    for (words, lines, said) in [
+        (vec!["1", "0"], vec![LOAD, &cheaper, ok], "solve answers 20, the tool comes to 21"),
+        (
+            vec!["1", "0"],
+            vec![LOAD, &today, ok, "refused 6"],
+            "link answers refused 6, the tool comes to done",
+        ),
+        (
+            vec!["1", "3"],
+            vec![LOAD, &today, ok, "link"],
+            "link answers done, the tool comes to refused 6",
+        ),
+        (
+            vec!["1", "0", "rate", "1001"],
+            vec![LOAD, &today, ok, "refused 6"],
+            "link answers refused 6, the tool comes to refused 3",
+        ),
+        (
+            vec!["1", "0", "fixed", "2"],
+            vec![LOAD, &today, ok, "link", &today, ok],
+            "solve answers 21, the tool comes to 22",
+        ),
+    ] {
+        let said = format!("fanchuki: the proved {said}\n");
+        assert_eq!(whatif(&words, &lines), (3, String::new(), said));
+    }
 }
 
 #[test]
