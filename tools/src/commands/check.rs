@@ -32,8 +32,8 @@ may stand first and is passed over, so this judges the cheapest plan:
 
   fanchuki plan q.txt | fanchuki check q.txt -
 
-A fault of the text is told with line and column. A number that the query does not have is none:
-the check refuses it with 8. Steps are counted from 0.
+Every fault of the text is told with line and column. A number that the query does not have is
+no fault of the text: the check refuses it with 8. Steps are counted from 0.
 ";
 
 fn run(words: &[OsString]) -> Result<Done, Failure> {
