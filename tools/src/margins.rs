@@ -4,7 +4,8 @@
 //! sites; the cheapest cost is the least of such straight lines, so it is concave. Both searches
 //! rest on that. Today's plan less the cheapest is convex, never below 0, and 0 today: once it
 //! is above 0 it stays so. And plans that do not use the line keep their cost while those that
-//! use it only get dearer: once none of these is taken, none is taken again.
+//! use it only get dearer, or stay where nothing of it is charged: once none of these is taken,
+//! none is taken again, since of plans that cost the same one order decides.
 
 use reference::limits::{MOST_FIXED, MOST_RATE};
 use reference::query::Line;

@@ -127,3 +127,31 @@ fn margins_hold_to_the_last_unit() {
     }
     assert!(met.iter().all(|&count| count > 10), "{met:?}");
 }
+
+/// Every rate from the least to the limit, of some line of small queries.
+#[test]
+fn a_scan_of_all_rates() {
+    let mut calls = proved::start();
+    for case in 0..30 {
+        let mut random = Random::for_case(81, case);
+        let query = queries::query(&mut random, &Extent { relations: 2..=4, sites: 2..=3 });
+        let mut loaded = proved::load(calls, query.clone(), Names::default());
+        let ends: Vec<(usize, usize)> = Query::line_ends(query.sites.len()).collect();
+        let ends = random.pick(&ends);
+        if let Some((_, today)) = solved(&query) {
+            let line = *query.line(ends.0, ends.1);
+            let used = uses(&query, &today, ends);
+            let scan = Scan { query: &query, ends, today: &today, used };
+            let least = if used { line.rate.0 } else { 0 };
+            let found = match margins::margins(&mut loaded, &today, ends).expect("margins") {
+                Margins::Used { rate, .. } => Some(rate),
+                Margins::Unused { rate, .. } => rate,
+            };
+            for value in least..=MOST_RATE {
+                let holds = scan.holds(Line { rate: Rate(value), ..line });
+                assert_eq!(holds, found.is_some_and(|found| value <= found), "{value}, {found:?}");
+            }
+        }
+        calls = loaded.calls;
+    }
+}
