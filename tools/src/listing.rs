@@ -24,6 +24,17 @@ pub fn step(names: &Names, step: Step) -> String {
     }
 }
 
+/// Kind and argument, which need not be in the query.
+pub fn raw(names: &Names, bytes: [u8; 2]) -> String {
+    let argument = usize::from(bytes[1]);
+    match bytes[0] {
+        1 => step(names, Step::Load { relation: argument }),
+        2 => step(names, Step::Send { to: argument }),
+        3 => step(names, Step::Join { join: argument }),
+        kind => format!("kind {kind} argument {argument}"),
+    }
+}
+
 /// The whole listing, the heading first.
 pub fn listing(names: &Names, steps: &[Step], cost: u64, trials: u64) -> String {
     let mut text = format!("plan {} cost {cost} trials {trials}\n", steps.len());

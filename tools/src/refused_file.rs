@@ -3,8 +3,11 @@
 
 use std::fmt;
 
+use reference::decode;
 use reference::refusal::Refusal;
 use reference::stated::Form;
+
+use crate::file_walk;
 
 #[derive(Clone, Debug, PartialEq, Eq)]
 pub struct RefusedFile {
@@ -13,9 +16,29 @@ pub struct RefusedFile {
 }
 
 impl RefusedFile {
-    /// The file that is refused so.
-    pub fn find(_file: &[u8], _form: Form, refusal: Refusal) -> RefusedFile {
-        RefusedFile { number: refusal.number(), reason: String::new() }
+    pub fn new(refusal: Refusal, reason: String) -> RefusedFile {
+        RefusedFile { number: refusal.number(), reason }
+    }
+
+    /// The file that is refused so. The words come from a walk of its own over the fields; where
+    /// that ends otherwise they say so.
+    pub fn find(file: &[u8], form: Form, refusal: Refusal) -> RefusedFile {
+        let reason = match file_walk::walk(file, form) {
+            Err(found) if found.number == refusal.number() => found.reason,
+            Err(found) => format!("the tool's words are for another refusal, {found}"),
+            Ok(()) => "the tool finds nothing wrong with it".to_string(),
+        };
+        RefusedFile::new(refusal, reason + other_form(file, form))
+    }
+}
+
+/// Nothing in a file says which form it has, so the other one may have been meant.
+fn other_form(file: &[u8], form: Form) -> &'static str {
+    let reads = |other| decode::decode(file, other).is_ok();
+    match form {
+        Form::Sizes if reads(Form::Rows) => "\nas a file with row counts it is right: --rows",
+        Form::Rows if reads(Form::Sizes) => "\nas a file with sizes it is right: without --rows",
+        _ => "",
     }
 }
 

@@ -1,0 +1,124 @@
+//! Where the proved program and the tool's model come to two answers, the tool ends with 3.
+
+mod common;
+mod fake;
+
+use common::example;
+
+/// A plan of Q that costs 21, and one that is refused with 11 at step 2.
+const RIGHT: &str = "../tools/tests/stored/plan-q.txt";
+const WRONG: &str = "../tools/tests/stored/plan-two-indexes.txt";
+
+const LOAD: &str = "load 2 3";
+/// The answer of solve for Q, its plan and the rest of the output.
+const PLAN: &str = "040100010102000300";
+
+/// A program that answers with these lines and keeps its ends open.
+fn answers(lines: &[String]) -> String {
+    let lines: Vec<String> = lines.iter().map(|line| format!("echo '{line}'; ")).collect();
+    lines.concat() + "exec cat >/dev/null"
+}
+
+fn solved(cost: u64) -> String {
+    format!("solved {cost} 9 3 {PLAN}{}", "00".repeat(60))
+}
+
+fn check(plan: &str, lines: &[&str]) -> (i32, String, String) {
+    let lines: Vec<String> = [LOAD].iter().chain(lines).map(|line| line.to_string()).collect();
+    fake::run(&answers(&lines), &["check", &example("q.txt"), &example(plan)])
+}
+
+fn is_fault((code, printed, said): (i32, String, String)) {
+    assert_eq!((code, printed.as_str()), (3, ""), "{said}");
+    assert!(said.starts_with("fanchuki: ") && said.lines().count() == 1, "{said}");
+}
+
+#[test]
+fn the_right_answers_are_taken() {
+    let (code, printed, said) = check(RIGHT, &["check 21", &solved(21), "cells OK"]);
+    assert_eq!((code, said.as_str()), (0, ""));
+    assert_eq!(printed, "accepted at 21\nthis is the cheapest cost\n");
+    let (code, printed, said) = check(WRONG, &["refused 11 2"]);
+    assert_eq!((code, said.as_str()), (1, ""));
+    assert!(printed.starts_with("refused 11 at step 2 (line 4), join 0: "), "{printed}");
+}
+
+#[test]
+fn another_verdict_of_check() {
+    for (plan, answer, said) in [
+        (RIGHT, "check 22", "answers cost 22, the tool comes to cost 21"),
+        (RIGHT, "refused 11 3", "answers refused 11 at 3, the tool comes to cost 21"),
+        (WRONG, "refused 11 1", "answers refused 11 at 1, the tool comes to refused 11 at 2"),
+        (WRONG, "refused 11", "answers refused 11, the tool comes to refused 11 at 2"),
+        (WRONG, "refused 10 2", "answers refused 10 at 2, the tool comes to refused 11 at 2"),
+        (WRONG, "check 21", "answers cost 21, the tool comes to refused 11 at 2"),
+    ] {
+        let said = format!("fanchuki: the proved check {said}\n");
+        assert_eq!(check(plan, &[answer]), (3, String::new(), said));
+    }
+    is_fault(check(RIGHT, &["checked 21"]));
+}
+
+#[test]
+fn a_solve_that_does_not_go_with_check() {
+    for (answer, said) in [
+        (vec![&solved(22)[..], "cells OK"], "check answers 21, and solve 22"),
+        (vec!["no-route 3", "cells OK", "output OK"], "check answers 21, and solve no route"),
+        (vec![&solved(21), "cells CHANGED"], "the program 'calls' answered 'cells CHANGED'"),
+    ] {
+        let lines = [&["check 21"], &answer[..]].concat();
+        assert_eq!(check(RIGHT, &lines), (3, String::new(), format!("fanchuki: {said}\n")));
+    }
+}
+
+fn whatif(words: &[&str], lines: &[&str]) -> (i32, String, String) {
+    let lines: Vec<String> = lines.iter().map(|line| line.to_string()).collect();
+    let q = example("q.txt");
+    fake::run(&answers(&lines), &[&["whatif", &q, "--line"], words].concat())
+}
+
+#[test]
+fn another_answer_of_solve_or_link() {
+    let (today, ok) = (solved(21), "cells OK");
+    let cheaper = solved(20);
+    for (words, lines, said) in [
+        (vec!["1", "0"], vec![LOAD, &cheaper, ok], "solve answers 20, the tool comes to 21"),
+        (
+            vec!["1", "0"],
+            vec![LOAD, &today, ok, "refused 6"],
+            "link answers refused 6, the tool comes to done",
+        ),
+        (
+            vec!["1", "3"],
+            vec![LOAD, &today, ok, "link"],
+            "link answers done, the tool comes to refused 6",
+        ),
+        (
+            vec!["1", "0", "rate", "1001"],
+            vec![LOAD, &today, ok, "refused 6"],
+            "link answers refused 6, the tool comes to refused 3",
+        ),
+        (
+            vec!["1", "0", "fixed", "2"],
+            vec![LOAD, &today, ok, "link", &today, ok],
+            "solve answers 21, the tool comes to 22",
+        ),
+    ] {
+        let said = format!("fanchuki: the proved {said}\n");
+        assert_eq!(whatif(&words, &lines), (3, String::new(), said));
+    }
+}
+
+#[test]
+fn a_program_that_ends_too_early() {
+    for calls in ["true", "exit 3", "echo load 2 3", "kill -s SEGV $$"] {
+        is_fault(fake::run(calls, &["check", &example("q.txt"), &example(RIGHT)]));
+        is_fault(fake::run(calls, &["whatif", &example("q.txt"), "--line", "1", "0"]));
+    }
+}
+
+#[test]
+fn another_answer_of_load() {
+    is_fault(whatif(&["1", "0"], &["refused 4"]));
+    is_fault(whatif(&["1", "0"], &["load 2"]));
+}
