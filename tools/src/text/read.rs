@@ -1,0 +1,143 @@
+//! From the words of a line to what they state.
+
+use reference::limits::{MOST_DIVISOR, MOST_ROWS, MOST_SIZE};
+
+use crate::text::fault::Faults;
+use crate::text::near::near;
+use crate::text::reading::{Limits, Read, Reading};
+use crate::text::scan::Word;
+use crate::text::statement::{Said, Statement};
+use crate::text::vocabulary::{is_number, quoted, STATEMENTS};
+
+pub const SITE: &str = "the name or number of a site";
+pub const RELATION: &str = "the name or number of a relation";
+const JOIN: &str = "the number of a join";
+const SIZE: Limits = Limits { what: "a size", least: 0, most: MOST_SIZE };
+const ROWS: Limits = Limits { what: "rows", least: 1, most: MOST_ROWS };
+const DIVISOR: Limits = Limits { what: "a divisor", least: 1, most: MOST_DIVISOR };
+
+/// What the words of a line state; nothing where there are none.
+pub fn statement<'t>(words: &[Word<'t>], faults: &mut Faults) -> Option<Statement<'t>> {
+    let (&first, rest) = words.split_first()?;
+    let end = words.last()?.end();
+    let mut reading = Reading { words: rest, end, faults };
+    let said = match begins(first, reading.faults) {
+        Some("site") => reading.sites(false),
+        Some("sites") => reading.sites(true),
+        Some("relation") => reading.relations(false),
+        Some("relations") => reading.relations(true),
+        Some("join") => reading.join(),
+        Some("size") => reading.size(),
+        Some("rows") => reading.rows(),
+        Some("divisor") => reading.divisor(),
+        Some("line") => reading.line(),
+        Some("every") => reading.every_line(),
+        Some("delivery") => reading.delivery(),
+        _ => Said::Unread(words.to_vec()),
+    };
+    Some(Statement { place: first.place, end, said })
+}
+
+/// The statement that the word begins; a near miss is told and taken for it.
+fn begins(first: Word, faults: &mut Faults) -> Option<&'static str> {
+    if let Some(known) = STATEMENTS.into_iter().find(|&known| known == first.text) {
+        return Some(known);
+    }
+    let meant = near(first.text, STATEMENTS);
+    let hint = match meant {
+        Some(meant) => format!("did you mean '{meant}'?"),
+        None => format!("one begins with {}", STATEMENTS.join(", ")),
+    };
+    faults.tell(first.place, format!("{} is no statement; {hint}", quoted(first.text)));
+    meant
+}
+
+impl<'t> Reading<'_, 't> {
+    fn join(&mut self) -> Said<'t> {
+        let mut number = None;
+        let mut ends = [None, None];
+        let mut read = || -> Read<()> {
+            number = self.join_number()?;
+            self.word("links")?;
+            ends[0] = self.called(RELATION)?;
+            self.word("and")?;
+            ends[1] = self.called(RELATION)?;
+            self.ends()
+        };
+        let _ = read();
+        Said::Join { number, ends }
+    }
+
+    fn join_number(&mut self) -> Read<Option<Word<'t>>> {
+        match self.next() {
+            Some(word) if is_number(word.text) => {
+                self.skip();
+                Ok(Some(word))
+            }
+            _ => self.wrong(JOIN),
+        }
+    }
+
+    fn size(&mut self) -> Said<'t> {
+        let mut relations = None;
+        let mut size = None;
+        let mut read = || -> Read<()> {
+            self.word("of")?;
+            let set = self.set()?;
+            self.word("is")?;
+            relations = Some(set);
+            size = self.number(&SIZE)?;
+            self.ends()
+        };
+        let _ = read();
+        Said::Size { relations, size }
+    }
+
+    /// The relations up to 'is', or to what stands in its place before a number at the end.
+    fn set(&mut self) -> Read<Vec<Option<Word<'t>>>> {
+        let instead = match self.words {
+            [before @ .., word, last] if is_number(last.text) && stands_for_is(word.text) => {
+                before.len()
+            }
+            words => words.len(),
+        };
+        let is = self.words.iter().position(|word| word.text == "is");
+        let mut set = Vec::new();
+        for _ in 0..is.unwrap_or(instead).max(1) {
+            set.push(self.called(RELATION)?);
+        }
+        Ok(set)
+    }
+
+    fn rows(&mut self) -> Said<'t> {
+        let (mut relation, mut rows) = (None, None);
+        let mut read = || -> Read<()> {
+            self.word("of")?;
+            relation = self.called(RELATION)?;
+            self.word("are")?;
+            rows = self.number(&ROWS)?;
+            self.ends()
+        };
+        let _ = read();
+        Said::Rows { relation, rows }
+    }
+
+    fn divisor(&mut self) -> Said<'t> {
+        let (mut join, mut divisor) = (None, None);
+        let mut read = || -> Read<()> {
+            self.word("of")?;
+            self.word("join")?;
+            join = self.join_number()?;
+            self.word("is")?;
+            divisor = self.number(&DIVISOR)?;
+            self.ends()
+        };
+        let _ = read();
+        Said::Divisor { join, divisor }
+    }
+}
+
+/// It was probably meant to be 'is'.
+fn stands_for_is(word: &str) -> bool {
+    ["are", "=", ":"].contains(&word) || near(word, ["is"]).is_some() && !is_number(word)
+}
