@@ -32,6 +32,7 @@ impl Ordered {
     pub fn next(&mut self, place: Place, faults: &mut Faults) -> usize {
         if self.count() >= self.most && !self.too_many {
             self.too_many = true;
+            self.sure = false;
             let reason = format!("one {} too many: a query has at most {}", self.one, self.most);
             faults.tell(place, reason);
         }
@@ -70,7 +71,7 @@ impl Ordered {
     }
 
     /// Those from the first to the last.
-    pub fn from_to(&mut self, ends: [Called; 2], faults: &mut Faults) -> Vec<usize> {
+    pub fn span(&mut self, ends: [Called; 2], faults: &mut Faults) -> Vec<usize> {
         let [Some(first), Some(last)] = ends else {
             self.sure = false;
             return Vec::new();

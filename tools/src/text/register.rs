@@ -83,7 +83,7 @@ impl<'t> Register<'t> {
             Which::List(list) => {
                 list.iter().filter_map(|&one| self.declare_one(kind, one, place, faults)).collect()
             }
-            Which::FromTo(first, last) => self.of_mut(kind).from_to([*first, *last], faults),
+            Which::FromTo(first, last) => self.of_mut(kind).span([*first, *last], faults),
             Which::Unread => {
                 self.of_mut(kind).sure = false;
                 Vec::new()
