@@ -67,16 +67,14 @@ impl Gathered<'_> {
             return true;
         }
         let place = self.joins.last().map_or(self.end, |&(_, place, _)| place);
-        let count = match self.joins.len() {
-            0 => "there is none".to_string(),
-            1 => "there is 1".to_string(),
-            count => format!("there are {count}"),
-        };
+        let counted =
+            |count| if count == 1 { "1 join".to_string() } else { format!("{count} joins") };
         let reason = format!(
-            "no join reaches {} from {}; {relations} relations need {} joins, and {count}",
+            "no join reaches {} from {}; {relations} relations need {}, not {}",
             listed(&beyond, beyond.len()),
             self.names.the_relation(0),
-            relations - 1,
+            counted(relations - 1),
+            self.joins.len(),
         );
         faults.tell(place, reason);
         false

@@ -6,6 +6,7 @@
 //! then it is seen what is missing (`whole`). Every fault on the way is kept, and the text is
 //! taken where there is none.
 
+mod called;
 mod fault;
 mod gathered;
 mod joins;
@@ -15,6 +16,7 @@ mod once;
 mod ordered;
 mod read;
 mod reading;
+mod refer;
 mod register;
 mod scan;
 mod shown;

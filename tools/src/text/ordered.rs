@@ -14,6 +14,8 @@ pub struct Ordered {
     pub lines: Vec<usize>,
     /// False where the text may have meant others than were taken.
     pub sure: bool,
+    /// Whether a word that declares one was faulty, so that a name may be missing.
+    pub doubted: bool,
     /// How many were refused as said twice; the numbers may go on behind them.
     twice: usize,
     too_many: bool,
@@ -21,7 +23,15 @@ pub struct Ordered {
 
 impl Ordered {
     pub fn new(one: &'static str, most: usize) -> Ordered {
-        Ordered { one, most, lines: Vec::new(), sure: true, twice: 0, too_many: false }
+        Ordered {
+            one,
+            most,
+            lines: Vec::new(),
+            sure: true,
+            doubted: false,
+            twice: 0,
+            too_many: false,
+        }
     }
 
     pub fn count(&self) -> usize {

@@ -13,7 +13,7 @@ pub const SITE: &str = "the name or number of a site";
 pub const RELATION: &str = "the name or number of a relation";
 const JOIN: &str = "the number of a join";
 const SIZE: Limits = Limits { what: "a size", least: 0, most: MOST_SIZE };
-const ROWS: Limits = Limits { what: "rows", least: 1, most: MOST_ROWS };
+const ROWS: Limits = Limits { what: "a number of rows", least: 1, most: MOST_ROWS };
 const DIVISOR: Limits = Limits { what: "a divisor", least: 1, most: MOST_DIVISOR };
 
 /// What the words of a line state; nothing where there are none.

@@ -124,9 +124,15 @@ impl<'t> Reading<'_, 't> {
     /// A site, a relation or a join, by the word for it; one that can be neither name nor number
     /// is told, and nothing.
     pub fn called(&mut self, what: &str) -> Read<Option<Word<'t>>> {
-        let Some(word) = self.next().filter(|word| !is_taken(word.text)) else {
+        let Some(word) = self.next() else {
             return self.wrong(what);
         };
+        if is_taken(word.text) {
+            let found = quoted(word.text);
+            let reason = format!("expected {what}, found {found}, a word of the statements");
+            self.faults.tell(word.place, reason);
+            return Err(Stop);
+        }
         self.skip();
         if is_number(word.text) || is_name(word.text) {
             return Ok(Some(word));

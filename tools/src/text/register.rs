@@ -3,7 +3,6 @@
 use std::collections::{BTreeMap, HashMap, HashSet};
 
 use reference::limits::{MOST_RELATIONS, MOST_SITES};
-use reference::names::Names;
 
 use crate::text::fault::{Faults, Place};
 use crate::text::ordered::Ordered;
@@ -23,12 +22,12 @@ pub struct Register<'t> {
     relations: Ordered,
     joins: Ordered,
     /// By name: the number, and the line that gave the name.
-    named: HashMap<(Kind, &'t str), (usize, usize)>,
+    pub named: HashMap<(Kind, &'t str), (usize, usize)>,
     /// Whether a line could not be read at all, and the words of such lines.
     pub unread: bool,
-    unread_words: HashSet<&'t str>,
+    pub unread_words: HashSet<&'t str>,
     /// Words that call nothing: the first place, and the lines that have it again.
-    unknown: BTreeMap<(Kind, &'t str), (Place, Vec<usize>)>,
+    pub unknown: BTreeMap<(Kind, &'t str), (Place, Vec<usize>)>,
 }
 
 impl<'t> Register<'t> {
@@ -99,7 +98,10 @@ impl<'t> Register<'t> {
         faults: &mut Faults,
     ) -> Option<usize> {
         match called {
-            None => Some(self.of_mut(kind).next(place, faults)),
+            None => {
+                self.of_mut(kind).doubted = true;
+                Some(self.of_mut(kind).next(place, faults))
+            }
             Some(word) if is_number(word.text) => self.of_mut(kind).numbered(word, faults),
             Some(word) => self.name(kind, word, faults),
         }
@@ -113,6 +115,7 @@ impl<'t> Register<'t> {
                 let reason =
                     format!("{name} is the name of {one} {number} already, in line {line}");
                 faults.tell(word.place, reason);
+                self.of_mut(kind).doubted = true;
             }
         }
         if self.named.contains_key(&(kind, word.text)) {
@@ -122,64 +125,5 @@ impl<'t> Register<'t> {
         let number = self.of_mut(kind).next(word.place, faults);
         self.named.insert((kind, word.text), (number, word.place.line));
         Some(number)
-    }
-
-    /// The number of what the word calls. A word that calls nothing is kept, to be told of when
-    /// all are known.
-    pub fn find(&mut self, kind: Kind, word: Word<'t>) -> Option<usize> {
-        let number = if is_number(word.text) {
-            word.text.parse().ok().filter(|&number| number < self.of(kind).count())
-        } else {
-            self.named.get(&(kind, word.text)).map(|&(number, _)| number)
-        };
-        if number.is_none() && !self.may_be_meant(kind, word) {
-            let entry = self.unknown.entry((kind, word.text));
-            let (first, again) = entry.or_insert((word.place, Vec::new()));
-            if *first != word.place {
-                again.push(word.place.line);
-            }
-        }
-        number
-    }
-
-    /// Whether it may be declared where the text is faulty.
-    fn may_be_meant(&self, kind: Kind, word: Word) -> bool {
-        let none = match kind {
-            Kind::Join => self.joins.count() == 0 && self.relations.count() != 1,
-            _ => self.of(kind).count() == 0,
-        };
-        let unread = if is_number(word.text) {
-            self.sure(kind).is_none()
-        } else {
-            self.unread_words.contains(word.text)
-        };
-        none || unread
-    }
-
-    pub fn unknown(&self) -> impl Iterator<Item = (Kind, &'t str, Place, &[usize])> {
-        self.unknown.iter().map(|(&(kind, word), (place, again))| (kind, word, *place, &again[..]))
-    }
-
-    /// Those names of a kind that are within its limit, by number.
-    pub fn names_of(&self, kind: Kind) -> Vec<Option<String>> {
-        let mut names = vec![None; self.of(kind).count().min(MOST_RELATIONS)];
-        for (&(known, name), &(number, _)) in &self.named {
-            if let Some(place) = names.get_mut(number).filter(|_| known == kind) {
-                *place = Some(name.to_string());
-            }
-        }
-        names
-    }
-
-    pub fn names(&self) -> Names {
-        let known = |kind| {
-            let names = self.names_of(kind);
-            if names.iter().all(Option::is_none) {
-                Vec::new()
-            } else {
-                names
-            }
-        };
-        Names { sites: known(Kind::Site), relations: known(Kind::Relation) }
     }
 }

@@ -70,7 +70,7 @@ impl<'t> Reading<'_, 't> {
 
     fn relation_terms(&mut self, several: bool) -> Read<Terms<Home<'t>>> {
         if several {
-            return self.wrong("the end of the statement (a home is for one 'relation' a line)");
+            return self.wrong("the end of the statement (one with a home is a 'relation')");
         }
         self.word("at")?;
         let site = self.home()?;

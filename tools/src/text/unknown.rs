@@ -2,24 +2,35 @@
 
 use crate::text::fault::Faults;
 use crate::text::near::near;
+use crate::text::ordered::Ordered;
 use crate::text::register::{Kind, Register};
 use crate::text::vocabulary::{is_number, listed, quoted};
 
 /// So many lines are told that have such a word again.
 const MOST_LINES: usize = 4;
 
-/// Each word once, where it stands first.
+/// Each word once, where it stands first. One that comes near no name is left out where the name
+/// may stand in a declaration that is faulty.
 pub fn tell(register: &Register, faults: &mut Faults) {
     let names = [Kind::Site, Kind::Relation, Kind::Join].map(|kind| register.names_of(kind));
     for (kind, word, place, again) in register.unknown() {
-        let shown = if is_short_number(word) { word.into() } else { quoted(word) };
-        let (one, count) = (register.of(kind).one, register.of(kind).count());
-        let hint = match kind {
-            Kind::Site => hint(one, count, word, [&names[0], &names[1]], "relation"),
-            Kind::Relation => hint(one, count, word, [&names[1], &names[0]], "site"),
-            Kind::Join => hint(one, count, word, [&names[2], &names[2]], "join"),
+        let ordered = register.of(kind);
+        let (own, others, other) = match kind {
+            Kind::Site => (&names[0], &names[1], "relation"),
+            Kind::Relation => (&names[1], &names[0], "site"),
+            Kind::Join => (&names[2], &names[2], "join"),
         };
-        faults.tell(place, format!("no {one} {shown}; {hint}{}", also(place.line, again)));
+        let hint = match near(word, own.iter().flatten().map(String::as_str)) {
+            Some(meant) => format!("did you mean '{meant}'?"),
+            None if ordered.doubted || !ordered.sure => continue,
+            None if others.iter().any(|name| name.as_deref() == Some(word)) => {
+                format!("that is a {other}")
+            }
+            None => there_are(ordered, word, own),
+        };
+        let shown = if is_short_number(word) { word.into() } else { quoted(word) };
+        faults
+            .tell(place, format!("no {} {shown}; {hint}{}", ordered.one, also(place.line, again)));
     }
 }
 
@@ -39,32 +50,20 @@ fn also(first: usize, again: &[usize]) -> String {
     }
 }
 
-/// What was probably meant, or what there is; by the names of this kind and of the other.
-fn hint(
-    one: &str,
-    count: usize,
-    word: &str,
-    [own, others]: [&Vec<Option<String>>; 2],
-    other: &str,
-) -> String {
-    if let Some(meant) = near(word, own.iter().flatten().map(String::as_str)) {
-        return format!("did you mean '{meant}'?");
-    }
-    if others.iter().any(|name| name.as_deref() == Some(word)) {
-        return format!("'{word}' is a {other}");
-    }
-    if is_number(word) || own.iter().all(Option::is_none) {
-        return match count {
-            0 => format!("there is no {one}"),
-            1 => format!("the one {one} is 0"),
-            _ => format!("the {one}s are 0 to {}", count - 1),
-        };
-    }
-    let called =
-        |(number, name): (usize, &Option<String>)| name.clone().unwrap_or(number.to_string());
-    let shown: Vec<String> = own.iter().enumerate().map(called).collect();
+/// What there is, by names where the word is one.
+fn there_are(ordered: &Ordered, word: &str, names: &[Option<String>]) -> String {
+    let (one, count) = (ordered.one, ordered.count());
+    let named = !is_number(word) && names.iter().any(Option::is_some);
+    let called = |(number, name): (usize, &Option<String>)| match name {
+        Some(name) => name.clone(),
+        None => number.to_string(),
+    };
+    let shown: Vec<String> = names.iter().enumerate().map(called).collect();
     match count {
-        1 => format!("the one {one} is {}", listed(&shown, 1)),
-        _ => format!("the {one}s are {}", listed(&shown, shown.len())),
+        0 => format!("there is no {one}"),
+        1 if named => format!("the one {one} is {}", listed(&shown, 1)),
+        1 => format!("the one {one} is 0"),
+        _ if named => format!("the {one}s are {}", listed(&shown, shown.len())),
+        _ => format!("the {one}s are 0 to {}", count - 1),
     }
 }

@@ -3,6 +3,7 @@
 use reference::query::{Line, Query, Relation, Site};
 use reference::room::Draft;
 use reference::rows::RowCounts;
+use reference::sets;
 use reference::stated::{Form, Stated};
 use reference::tree::{self, Join};
 use reference::units::Bytes;
@@ -12,6 +13,7 @@ use crate::text::gathered::Gathered;
 use crate::text::missing::{self, DIVISORS, LINES, ROWS, SIZES};
 use crate::text::register::Kind;
 use crate::text::unknown;
+use crate::text::vocabulary::listed;
 
 impl Gathered<'_> {
     /// What room is told; nothing where a fault was told.
@@ -61,8 +63,10 @@ impl Gathered<'_> {
         let joins = self.tree(faults)?;
         for &(set, place) in &self.told.sets {
             if !tree::is_subquery(&joins, set) {
-                let relations = self.names.set(set);
-                let reason = format!("{relations} are not connected by joins and have no size");
+                let relations: Vec<String> =
+                    sets::members(set).map(|one| self.names.the_relation(one)).collect();
+                let relations = listed(&relations, relations.len());
+                let reason = format!("{relations} are not connected by joins, so have no size");
                 faults.tell(place, reason);
                 self.told.sizes.withdraw();
             }
