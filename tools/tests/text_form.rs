@@ -123,6 +123,8 @@ fn a_list_declares_several() {
     let rest: String = NAMED.lines().skip(3).map(|line| format!("{line}\n")).collect();
     let list = format!("sites north, south west may join, fixed 2, rate 1\n{rest}");
     assert_eq!(taken(&list), taken(&format!("{}{rest}", alike.concat())));
+    let many = list.replace("south west", "many my").replace("at south", "at many");
+    assert_eq!(taken(&many.replace("at west", "at my")).stated, taken(&list).stated);
     let mixed = list.replace("north, south west", "north 1 west").replace("at south", "at 1");
     assert_eq!(taken(&mixed).stated, taken(&list).stated);
 }

@@ -7,14 +7,13 @@ const LONGEST: usize = 64;
 pub fn near<'c>(word: &str, candidates: impl IntoIterator<Item = &'c str>) -> Option<&'c str> {
     let word = letters(word);
     let allowed = match word.len() {
-        0 | 1 => 0,
         2..=5 => 1,
         6..=LONGEST => 2,
         _ => return None,
     };
     let distances = candidates.into_iter().map(|candidate| {
         let letters = letters(candidate);
-        let far = letters.len().abs_diff(word.len()) > allowed;
+        let far = letters.len().abs_diff(word.len()) > allowed || numbered_apart(&word, &letters);
         (if far { usize::MAX } else { distance(&word, &letters) }, candidate)
     });
     let nearest = distances.min_by_key(|&(distance, _)| distance);
@@ -23,6 +22,13 @@ pub fn near<'c>(word: &str, candidates: impl IntoIterator<Item = &'c str>) -> Op
 
 fn letters(word: &str) -> Vec<char> {
     word.chars().take(LONGEST + 1).flat_map(char::to_lowercase).collect()
+}
+
+/// Two that differ in digits only, as r1 and r2, are meant to be two.
+fn numbered_apart(one: &[char], other: &[char]) -> bool {
+    let both_digits = |a: char, b: char| a.is_ascii_digit() && b.is_ascii_digit();
+    let alike = one.iter().zip(other).all(|(&a, &b)| a == b || both_digits(a, b));
+    one.len() == other.len() && alike && one != other
 }
 
 /// How many letters are changed, put in, left out, or swapped with the next one.

@@ -31,13 +31,13 @@ impl<K: Ord, V: Copy> Once<K, V> {
         let first = self.stand.map_or(statement, |(first, _)| first);
         self.stand = Some((first, statement));
         let Some(key) = key else {
-            self.faulty += 1;
+            self.withdraw();
             return;
         };
         if let Some((_, line)) = self.values.get(&key) {
             let (place, what) = again(&key);
             faults.tell(place, format!("{what} there already, in line {line}"));
-            self.faulty += 1;
+            self.withdraw();
             return;
         }
         self.values.insert(key, (value, statement.line));
@@ -67,7 +67,12 @@ impl<K: Ord, V: Copy> Once<K, V> {
 
     /// One whose statement is found not to hold.
     pub fn withdraw(&mut self) {
-        self.faulty += 1;
+        self.faulty = self.faulty.saturating_add(1);
+    }
+
+    /// A statement that may have been meant for all.
+    pub fn lost(&mut self) {
+        self.faulty = usize::MAX;
     }
 
     /// The place of the last one.

@@ -16,8 +16,8 @@ pub struct Ordered {
     pub sure: bool,
     /// Whether a word that declares one was faulty, so that a name may be missing.
     pub doubted: bool,
-    /// How many were refused as said twice; the numbers may go on behind them.
-    twice: usize,
+    /// How many were not taken; the numbers may go on behind them.
+    passed: usize,
     too_many: bool,
 }
 
@@ -29,7 +29,7 @@ impl Ordered {
             lines: Vec::new(),
             sure: true,
             doubted: false,
-            twice: 0,
+            passed: 0,
             too_many: false,
         }
     }
@@ -53,7 +53,13 @@ impl Ordered {
     /// One that is said twice and is not taken again.
     pub fn again(&mut self) {
         self.sure = false;
-        self.twice += 1;
+        self.passed += 1;
+    }
+
+    /// A statement that may have declared some, nobody knows how many.
+    pub fn lost(&mut self) {
+        self.sure = false;
+        self.passed += self.most;
     }
 
     /// The one of this number, which must be the next.
@@ -68,12 +74,12 @@ impl Ordered {
             return None;
         }
         let ahead = number - next;
-        if ahead > self.twice {
+        if ahead > self.passed {
             let shown = quoted(word.text);
             faults.tell(word.place, format!("{one} {next} comes next, not {shown}"));
             self.sure = false;
         }
-        self.twice -= ahead.min(self.twice);
+        self.passed -= ahead.min(self.passed);
         if number < self.most {
             self.lines.resize(number, word.place.line);
         }
@@ -83,13 +89,13 @@ impl Ordered {
     /// Those from the first to the last.
     pub fn span(&mut self, ends: [Called; 2], faults: &mut Faults) -> Vec<usize> {
         let [Some(first), Some(last)] = ends else {
-            self.sure = false;
+            self.lost();
             return Vec::new();
         };
         if let Some(name) = [first, last].into_iter().find(|word| !is_number(word.text)) {
             let reason = format!("expected a number beside 'to', found {}", quoted(name.text));
             faults.tell(name.place, reason);
-            self.sure = false;
+            self.lost();
             return Vec::new();
         }
         let mut taken: Vec<usize> = self.numbered(first, faults).into_iter().collect();

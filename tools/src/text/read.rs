@@ -7,7 +7,7 @@ use crate::text::near::near;
 use crate::text::reading::{Limits, Read, Reading};
 use crate::text::scan::Word;
 use crate::text::statement::{Said, Statement};
-use crate::text::vocabulary::{is_number, quoted, STATEMENTS};
+use crate::text::vocabulary::{is_name, is_number, quoted, STATEMENTS};
 
 pub const SITE: &str = "the name or number of a site";
 pub const RELATION: &str = "the name or number of a relation";
@@ -85,8 +85,8 @@ impl<'t> Reading<'_, 't> {
             self.word("of")?;
             let set = self.set()?;
             self.word("is")?;
-            relations = Some(set);
             size = self.number(&SIZE)?;
+            relations = Some(set);
             self.ends()
         };
         let _ = read();
@@ -101,7 +101,7 @@ impl<'t> Reading<'_, 't> {
             }
             words => words.len(),
         };
-        let is = self.words.iter().position(|word| word.text == "is");
+        let is = self.words.iter().rposition(|word| word.text == "is");
         let mut set = Vec::new();
         for _ in 0..is.unwrap_or(instead).max(1) {
             set.push(self.called(RELATION)?);
@@ -139,5 +139,5 @@ impl<'t> Reading<'_, 't> {
 
 /// It was probably meant to be 'is'.
 fn stands_for_is(word: &str) -> bool {
-    ["are", "=", ":"].contains(&word) || near(word, ["is"]).is_some() && !is_number(word)
+    !is_number(word) && (!is_name(word) || near(word, ["is"]).is_some())
 }

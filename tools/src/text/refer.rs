@@ -83,6 +83,9 @@ impl<'t> Gathered<'t> {
         };
         let key = key.map(|(sender, receiver, _)| (sender, receiver));
         self.lines.take(place, key, line, again, faults);
+        if ends.iter().all(Option::is_none) {
+            self.lines.lost();
+        }
     }
 
     fn find(&mut self, kind: Kind, called: Called<'t>) -> Option<(usize, Place)> {

@@ -66,6 +66,9 @@ impl<'t> Register<'t> {
     }
 
     pub fn leave_unread(&mut self, words: &[Word<'t>]) {
+        for kind in [Kind::Site, Kind::Relation, Kind::Join] {
+            self.of_mut(kind).lost();
+        }
         self.unread = true;
         self.unread_words.extend(words.iter().map(|word| word.text));
     }
@@ -84,7 +87,7 @@ impl<'t> Register<'t> {
             }
             Which::FromTo(first, last) => self.of_mut(kind).span([*first, *last], faults),
             Which::Unread => {
-                self.of_mut(kind).sure = false;
+                self.of_mut(kind).lost();
                 Vec::new()
             }
         }

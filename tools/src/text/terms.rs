@@ -15,7 +15,7 @@ const RATE: Limits = Limits { what: "a rate", least: 0, most: MOST_RATE };
 
 impl<'t> Reading<'_, 't> {
     pub fn sites(&mut self, several: bool) -> Said<'t> {
-        let which = self.which(SITE, several, "may");
+        let which = self.which(SITE, several);
         let terms = match (&which, self.next()) {
             (Ok(_), None) => Terms::Bare,
             (Ok(_), Some(_)) => self.site_terms().unwrap_or(Terms::Faulty),
@@ -25,7 +25,7 @@ impl<'t> Reading<'_, 't> {
     }
 
     pub fn relations(&mut self, several: bool) -> Said<'t> {
-        let which = self.which(RELATION, several, "at");
+        let which = self.which(RELATION, several);
         let terms = match (&which, self.next()) {
             (Ok(_), None) => Terms::Bare,
             (Ok(_), Some(_)) => self.relation_terms(several).unwrap_or(Terms::Faulty),
@@ -34,8 +34,9 @@ impl<'t> Reading<'_, 't> {
         Said::Relations { which: which.unwrap_or(Which::Unread), terms }
     }
 
-    /// Those that are declared, up to the word with which their terms begin.
-    fn which(&mut self, what: &str, several: bool, terms: &str) -> Read<Which<'t>> {
+    /// Those that are declared, up to the word with which their terms begin. Only 'may' stands
+    /// before 'join' or 'not'.
+    fn which(&mut self, what: &str, several: bool) -> Read<Which<'t>> {
         let first = self.called(what)?;
         if !several {
             return Ok(Which::List(vec![first]));
@@ -46,8 +47,8 @@ impl<'t> Reading<'_, 't> {
         }
         let mut list = vec![first];
         while let Some(word) = self.next().filter(|word| !is_taken(word.text)) {
-            let follows = self.words.get(1).is_some_and(|word| is_taken(word.text));
-            if follows && near(word.text, [terms]).is_some() {
+            let next = self.words.get(1).map(|word| word.text);
+            if matches!(next, Some("join" | "not")) && near(word.text, ["may"]).is_some() {
                 break;
             }
             list.push(self.called(what)?);
