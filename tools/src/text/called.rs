@@ -30,7 +30,11 @@ impl<'t> Register<'t> {
     /// Whether it may be declared where the text is faulty.
     fn may_be_meant(&self, kind: Kind, word: Word) -> bool {
         let none = match kind {
-            Kind::Join => self.of(Kind::Join).count() == 0 && self.of(Kind::Relation).count() != 1,
+            // One that the relations need is told of with them.
+            Kind::Join => {
+                let relations = self.of(Kind::Relation).count();
+                relations == 0 || word.text.parse().is_ok_and(|join: usize| join < relations - 1)
+            }
             _ => self.of(kind).count() == 0,
         };
         let unread = if is_number(word.text) {
