@@ -171,6 +171,6 @@ fn long_texts_take_no_long_time() {
         let begun = std::time::Instant::now();
         let faults = text::parse(&text).expect_err("no query");
         held_to_places(&text, &faults);
-        assert!(begun.elapsed().as_secs() < 5, "{} of {:.40}", begun.elapsed().as_secs(), text);
+        assert!(begun.elapsed().as_secs() < 20, "{} of {:.40}", begun.elapsed().as_secs(), text);
     }
 }
