@@ -1,9 +1,12 @@
 //! Random damage of texts: nothing crashes, every fault has its place in the text, and what is
 //! taken packs to a file that the load takes.
 
+mod common;
 mod texts;
 
+use common::run_on;
 use fanchuki::failure::Failure;
+use fanchuki::given::is_packed;
 use fanchuki::text::{self, Fault};
 use reference::decode::decode;
 use reference::encode::encode_stated;
@@ -103,19 +106,25 @@ fn held_to_places(text: &str, faults: &[Fault]) {
     assert!(!shown.contains(|odd: char| odd.is_control() && !"\t\n".contains(odd)), "{shown:?}");
 }
 
+/// The text of a random query, changed in a few places.
+fn damaged(random: &mut Random) -> String {
+    let extent = Extent { relations: 1..=5, sites: 1..=4 };
+    let form = random.pick(&Form::ALL);
+    let stated = rows::stated(random, &extent, form);
+    let names = texts::names(random, &stated.query);
+    let mut text = print(&stated, &names);
+    for _ in 0..random.pick(&[1, 1, 1, 2, 4]) {
+        text = damage(random, &text);
+    }
+    text
+}
+
 #[test]
 fn damaged_texts_are_taken_or_told_of() {
     let (mut whole, mut refused) = (0, 0);
     for case in 0..CASES {
         let random = &mut Random::for_case(71, case);
-        let extent = Extent { relations: 1..=5, sites: 1..=4 };
-        let form = random.pick(&Form::ALL);
-        let stated = rows::stated(random, &extent, form);
-        let names = texts::names(random, &stated.query);
-        let mut text = print(&stated, &names);
-        for _ in 0..random.pick(&[1, 1, 1, 2, 4]) {
-            text = damage(random, &text);
-        }
+        let text = damaged(random);
         match text::parse(&text) {
             Ok(named) => {
                 whole += 1;
@@ -132,6 +141,27 @@ fn damaged_texts_are_taken_or_told_of() {
         }
     }
     assert!(whole > 500 && refused > 5_000, "{whole} taken, {refused} refused");
+}
+
+/// The tool plans what is taken, and tells of what is not.
+#[test]
+fn the_tool_ends_as_it_should() {
+    for case in 0..300 {
+        let text = damaged(&mut Random::for_case(73, case));
+        let ended = run_on(&["plan", "-"], text.as_bytes());
+        match text::parse(&text) {
+            _ if is_packed(text.as_bytes()) => assert_eq!(ended.code, 1, "{}\n{text}", ended.said),
+            Ok(_) => {
+                assert!(ended.code <= 1 && ended.said.is_empty(), "{}\n{text}", ended.said);
+                assert!(!ended.printed.is_empty(), "{text}");
+            }
+            Err(faults) => {
+                assert_eq!((ended.code, ended.printed.len()), (1, 0), "{}\n{text}", ended.said);
+                let told = format!("fanchuki: standard input:{}\n", faults[0]);
+                assert!(ended.said.starts_with(&told), "{told}{}", ended.said);
+            }
+        }
+    }
 }
 
 /// Words of the statements and odd ones in no order at all.
