@@ -123,7 +123,8 @@ const WHOLE: [&str; 14] = [
     "sites a b mya join, fixed 1, rate 1\nrelations x y at a",
     "site a\nsite a\nsite 2\nsite 3\nrelation 0",
     "site 0\nrelation 0\ndivisor of join 0 is 2",
-    "site a may join, fixed 1, rate 1\nrelations p q r s\njoin 0 links p and q\njoin 1 links r and s",
+    "site a may join, fixed 1, rate 1\nrelations p q r s\njoin 0 links p and q\n\
+     join 1 links r and s",
     "site a may join, fixed 1, rate 1\nrelation p at a\nrelation q at a\nrelation r at a\n\
      relation s at a\njoin 0 links p and q\njoin 1 links p and r\njoin 2 links p and s\n\
      size of p is 1\n\nsize of q is 1\ndelivery to a",

@@ -56,15 +56,14 @@ impl<'t> Reading<'_, 't> {
     fn join(&mut self) -> Said<'t> {
         let mut number = None;
         let mut ends = [None, None];
-        let mut read = || -> Read<()> {
-            number = self.join_number()?;
-            self.word("links")?;
-            ends[0] = self.called(RELATION)?;
-            self.word("and")?;
-            ends[1] = self.called(RELATION)?;
-            self.ends()
-        };
-        let _ = read();
+        self.as_far(|words| {
+            number = words.join_number()?;
+            words.word("links")?;
+            ends[0] = words.called(RELATION)?;
+            words.word("and")?;
+            ends[1] = words.called(RELATION)?;
+            words.ends()
+        });
         Said::Join { number, ends }
     }
 
@@ -81,15 +80,14 @@ impl<'t> Reading<'_, 't> {
     fn size(&mut self) -> Said<'t> {
         let mut relations = None;
         let mut size = None;
-        let mut read = || -> Read<()> {
-            self.word("of")?;
-            let set = self.set()?;
-            self.word("is")?;
-            size = self.number(&SIZE)?;
+        self.as_far(|words| {
+            words.word("of")?;
+            let set = words.set()?;
+            words.word("is")?;
+            size = words.number(&SIZE)?;
             relations = Some(set);
-            self.ends()
-        };
-        let _ = read();
+            words.ends()
+        });
         Said::Size { relations, size }
     }
 
@@ -111,28 +109,26 @@ impl<'t> Reading<'_, 't> {
 
     fn rows(&mut self) -> Said<'t> {
         let (mut relation, mut rows) = (None, None);
-        let mut read = || -> Read<()> {
-            self.word("of")?;
-            relation = self.called(RELATION)?;
-            self.word("are")?;
-            rows = self.number(&ROWS)?;
-            self.ends()
-        };
-        let _ = read();
+        self.as_far(|words| {
+            words.word("of")?;
+            relation = words.called(RELATION)?;
+            words.word("are")?;
+            rows = words.number(&ROWS)?;
+            words.ends()
+        });
         Said::Rows { relation, rows }
     }
 
     fn divisor(&mut self) -> Said<'t> {
         let (mut join, mut divisor) = (None, None);
-        let mut read = || -> Read<()> {
-            self.word("of")?;
-            self.word("join")?;
-            join = self.join_number()?;
-            self.word("is")?;
-            divisor = self.number(&DIVISOR)?;
-            self.ends()
-        };
-        let _ = read();
+        self.as_far(|words| {
+            words.word("of")?;
+            words.word("join")?;
+            join = words.join_number()?;
+            words.word("is")?;
+            divisor = words.number(&DIVISOR)?;
+            words.ends()
+        });
         Said::Divisor { join, divisor }
     }
 }

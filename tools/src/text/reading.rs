@@ -26,6 +26,11 @@ pub struct Reading<'r, 't> {
 }
 
 impl<'t> Reading<'_, 't> {
+    /// Reads as far as the words can be made out; what stops it is told.
+    pub fn as_far(&mut self, read: impl FnOnce(&mut Self) -> Read<()>) {
+        let _ = read(self);
+    }
+
     pub fn next(&self) -> Option<Word<'t>> {
         self.words.first().copied()
     }

@@ -110,12 +110,11 @@ impl<'t> Reading<'_, 't> {
 
     pub fn delivery(&mut self) -> Said<'t> {
         let mut site = None;
-        let mut read = || -> Read<()> {
-            self.word("to")?;
-            site = self.home()?;
-            self.ends()
-        };
-        let _ = read();
+        self.as_far(|words| {
+            words.word("to")?;
+            site = words.home()?;
+            words.ends()
+        });
         Said::Delivery(site)
     }
 
@@ -127,14 +126,13 @@ impl<'t> Reading<'_, 't> {
     pub fn line(&mut self) -> Said<'t> {
         let mut ends = [None, None];
         let mut line = None;
-        let mut read = || -> Read<()> {
-            ends[0] = self.called(SITE)?;
-            self.word("to")?;
-            ends[1] = self.called(SITE)?;
-            line = self.line_terms()?;
+        self.as_far(|words| {
+            ends[0] = words.called(SITE)?;
+            words.word("to")?;
+            ends[1] = words.called(SITE)?;
+            line = words.line_terms()?;
             Ok(())
-        };
-        let _ = read();
+        });
         Said::Line { ends, line }
     }
 

@@ -3,6 +3,8 @@
 // Each test file is a program of its own and takes what it needs.
 #![allow(dead_code)]
 
+pub mod damage;
+
 use fanchuki::text::{self, is_name, Fault};
 use reference::names::Names;
 use reference::query::Query;
