@@ -1,31 +1,42 @@
-//! What is wrong with a text.
+//! What is wrong with a text, and where.
 
 use std::fmt;
 
-/// A reason, and in which line, from 1; no line if it is the whole.
+/// A line and a column of a text, both from 1; a column counts characters.
+#[derive(Clone, Copy, Debug, PartialEq, Eq, PartialOrd, Ord)]
+pub struct Place {
+    pub line: usize,
+    pub column: usize,
+}
+
 #[derive(Clone, Debug, PartialEq, Eq)]
 pub struct Fault {
-    pub line: Option<usize>,
+    pub place: Place,
     pub reason: String,
-}
-
-impl Fault {
-    pub fn in_line(line: usize, reason: String) -> Fault {
-        Fault { line: Some(line), reason }
-    }
-}
-
-impl From<String> for Fault {
-    fn from(reason: String) -> Fault {
-        Fault { line: None, reason }
-    }
 }
 
 impl fmt::Display for Fault {
     fn fmt(&self, f: &mut fmt::Formatter) -> fmt::Result {
-        match self.line {
-            Some(line) => write!(f, "line {line}: {}", self.reason),
-            None => write!(f, "{}", self.reason),
-        }
+        write!(f, "{}:{}: {}", self.place.line, self.place.column, self.reason)
+    }
+}
+
+/// All that were found so far.
+#[derive(Debug, Default)]
+pub struct Faults(Vec<Fault>);
+
+impl Faults {
+    pub fn tell(&mut self, place: Place, reason: impl Into<String>) {
+        self.0.push(Fault { place, reason: reason.into() });
+    }
+
+    pub fn is_empty(&self) -> bool {
+        self.0.is_empty()
+    }
+
+    /// In order of place.
+    pub fn in_order(mut self) -> Vec<Fault> {
+        self.0.sort_by_key(|fault| fault.place);
+        self.0
     }
 }

@@ -1,21 +1,42 @@
 //! The text form of a query or a draft, one statement a line, read; docs/TEXT-FORM.md describes
 //! it, and the reference prints it.
+//!
+//! A line is taken apart into words (`scan`), and these are read as a statement (`read`,
+//! `terms`). When all are read, what they declare and call is put together (`gathered`), and
+//! then it is seen what is missing (`whole`). Every fault on the way is kept, and the text is
+//! taken where there is none.
 
+mod called;
 mod fault;
-mod parse;
-mod statements;
+mod gathered;
+mod joins;
+mod missing;
+mod near;
+mod once;
+mod ordered;
+mod read;
+mod reading;
+mod refer;
+mod register;
+mod scan;
+mod shown;
+mod statement;
+mod terms;
 mod told;
+mod unknown;
+mod vocabulary;
 mod whole;
-mod words;
 
-pub use fault::Fault;
+pub use fault::{Fault, Place};
+pub use shown::{decoded, refused};
+pub use vocabulary::is_name;
 
 use reference::names::Names;
 use reference::room::Draft;
-use reference::sets::{self, Set};
 use reference::stated::Stated;
 
-use crate::failure::Failure;
+use fault::Faults;
+use gathered::Gathered;
 
 /// A query as a text states it, and what the text calls its sites and relations.
 #[derive(Clone, Debug, PartialEq, Eq)]
@@ -24,30 +45,32 @@ pub struct Named {
     pub names: Names,
 }
 
-/// The query that the text states, by sizes or by rows and divisors; or every fault of the text.
+/// The query that the text states, by sizes or by rows and divisors; or every fault of the text,
+/// in order of place.
 pub fn parse(text: &str) -> Result<Named, Vec<Fault>> {
-    let stated = parse::parse(text).map_err(|fault| vec![fault])?;
-    Ok(Named { stated, names: Names::default() })
+    taken(text, |gathered, faults| {
+        let stated = gathered.stated(faults)?;
+        Some(Named { stated, names: gathered.names.clone() })
+    })
 }
 
 /// What room is told of the text, which may leave out all that room does not ask for.
 pub fn draft(text: &str) -> Result<Draft, Vec<Fault>> {
-    parse::draft(text).map_err(|fault| vec![fault])
+    taken(text, |gathered, faults| gathered.draft(faults))
 }
 
-/// The text of a file's bytes, which has this name.
-pub fn decoded(bytes: &[u8], name: &str) -> Result<String, Failure> {
-    String::from_utf8(bytes.to_vec()).map_err(|_| Failure::Refused(format!("{name}: not UTF-8")))
-}
-
-/// All faults of a file's text, as the user is told of them.
-pub fn refused(name: &str, _text: &[u8], faults: &[Fault]) -> Failure {
-    let faults: Vec<String> = faults.iter().map(|fault| format!("{name}: {fault}")).collect();
-    Failure::Refused(faults.join("\n"))
-}
-
-/// The relations of the set, as both directions name it.
-fn names(set: Set) -> String {
-    let names: Vec<String> = sets::members(set).map(|relation| relation.to_string()).collect();
-    names.join(" ")
+fn taken<T>(
+    text: &str,
+    whole: impl FnOnce(&mut Gathered, &mut Faults) -> Option<T>,
+) -> Result<T, Vec<Fault>> {
+    let mut faults = Faults::default();
+    let lines = (1..).zip(scan::lines(text));
+    let words = lines.map(|(number, line)| scan::words(number, line));
+    let statements: Vec<_> =
+        words.filter_map(|words| read::statement(&words, &mut faults)).collect();
+    let mut gathered = gathered::gather(&statements, &mut faults);
+    match whole(&mut gathered, &mut faults) {
+        Some(taken) if faults.is_empty() => Ok(taken),
+        _ => Err(faults.in_order()),
+    }
 }

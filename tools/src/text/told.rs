@@ -1,107 +1,110 @@
 //! What a text tells of sizes: each of them, or the rows and divisors in their place.
 
-use crate::text::names;
-use crate::text::words::{number, positive, relation};
-use reference::limits::{MOST_DIVISOR, MOST_RELATIONS, MOST_ROWS, MOST_SIZE};
-use reference::rows::RowCounts;
+use reference::names::Names;
 use reference::sets::{self, Set};
-use reference::tree::{self, Join};
-use reference::units::Bytes;
+use reference::stated::Form;
 
-const NOT_BOTH: &str = "a text has sizes, or rows and divisors, not both";
+use crate::text::fault::{Faults, Place};
+use crate::text::once::Once;
 
-/// The statements so far, all of one kind.
-#[derive(Default)]
+/// A number and the place of the word for it.
+type Found = Option<(usize, Place)>;
+
 pub struct Told {
-    sizes: Vec<(Set, u64)>,
-    rows: Vec<(usize, u64)>,
-    divisors: Vec<(usize, u64)>,
+    pub sizes: Once<Set, u64>,
+    pub rows: Once<usize, u64>,
+    pub divisors: Once<usize, u64>,
+    /// The sets that have sizes, with their places.
+    pub sets: Vec<(Set, Place)>,
+    /// The form of the first statement, and its line.
+    first: Option<(Form, usize)>,
+    pub both: bool,
 }
 
 impl Told {
-    pub fn size(&mut self, relations: &[&str], size: &str) -> Result<(), String> {
-        if self.has_rows() {
-            return Err(NOT_BOTH.to_string());
-        }
-        let mut set = 0;
-        for name in relations {
-            set |= sets::single(relation(name)?);
-        }
-        let what = format!("the size of {} is", names(set));
-        add_once(&mut self.sizes, set, number(size, MOST_SIZE)?, &what)
+    pub fn new() -> Told {
+        let (sizes, rows, divisors) = (Once::new(), Once::new(), Once::new());
+        Told { sizes, rows, divisors, sets: Vec::new(), first: None, both: false }
     }
 
-    pub fn rows(&mut self, name: &str, rows: &str) -> Result<(), String> {
-        self.no_sizes()?;
-        let what = format!("the rows of {name} are");
-        add_once(&mut self.rows, relation(name)?, positive(rows, MOST_ROWS)?, &what)
+    /// Sizes, where nothing is told.
+    pub fn form(&self) -> Form {
+        self.first.map_or(Form::Sizes, |(form, _)| form)
     }
 
-    pub fn divisor(&mut self, join: &str, divisor: &str) -> Result<(), String> {
-        self.no_sizes()?;
-        let what = format!("the divisor of join {join} is");
-        let join = number(join, MOST_RELATIONS as u64 - 2)? as usize;
-        add_once(&mut self.divisors, join, positive(divisor, MOST_DIVISOR)?, &what)
+    pub fn size(
+        &mut self,
+        place: Place,
+        relations: Option<Vec<Found>>,
+        size: Option<u64>,
+        names: &Names,
+        faults: &mut Faults,
+    ) {
+        self.keep_to(Form::Sizes, place, faults);
+        let at = relations.as_ref().and_then(|list| list.first().copied().flatten());
+        let at = at.map_or(place, |(_, at)| at);
+        let set = relations.and_then(|list| set(&list, names, faults));
+        self.sets.extend(set.filter(|set| !self.sizes.has(set)).map(|set| (set, at)));
+        let again = |&set: &Set| (at, format!("the size of {} is", names.set(set)));
+        self.sizes.take(place, set, size, again, faults);
     }
 
-    fn has_rows(&self) -> bool {
-        !self.rows.is_empty() || !self.divisors.is_empty()
+    pub fn rows(
+        &mut self,
+        place: Place,
+        relation: Found,
+        rows: Option<u64>,
+        names: &Names,
+        faults: &mut Faults,
+    ) {
+        self.keep_to(Form::Rows, place, faults);
+        let at = relation.map_or(place, |(_, at)| at);
+        let again = |&number: &usize| (at, format!("rows of {} are", names.relation(number)));
+        self.rows.take(place, relation.map(|(number, _)| number), rows, again, faults);
     }
 
-    fn no_sizes(&self) -> Result<(), String> {
-        match self.sizes[..] {
-            [] => Ok(()),
-            _ => Err(NOT_BOTH.to_string()),
-        }
+    pub fn divisor(
+        &mut self,
+        place: Place,
+        join: Found,
+        divisor: Option<u64>,
+        faults: &mut Faults,
+    ) {
+        self.keep_to(Form::Rows, place, faults);
+        let at = join.map_or(place, |(_, at)| at);
+        let again = |number: &usize| (at, format!("the divisor of join {number} is"));
+        self.divisors.take(place, join.map(|(number, _)| number), divisor, again, faults);
     }
 
-    /// Rows of every relation and a divisor of every join, if it has any.
-    pub fn row_counts(&self, n: usize) -> Result<Option<RowCounts>, String> {
-        if !self.has_rows() {
-            return Ok(None);
+    /// A text has one form; the first statement of the other is told.
+    fn keep_to(&mut self, form: Form, place: Place, faults: &mut Faults) {
+        let &mut (first, line) = self.first.get_or_insert((form, place.line));
+        if first != form && !self.both {
+            self.both = true;
+            let reason = "a text has sizes, or rows and divisors, not both";
+            let begun = match first {
+                Form::Sizes => "sizes begin",
+                Form::Rows => "rows or divisors begin",
+            };
+            faults.tell(place, format!("{reason}; {begun} in line {line}"));
         }
-        if let Some((relation, _)) = self.rows.iter().find(|&&(relation, _)| relation >= n) {
-            return Err(format!("rows of {relation}, which is not there"));
-        }
-        if let Some((join, _)) = self.divisors.iter().find(|&&(join, _)| join + 1 >= n) {
-            return Err(format!("a divisor of join {join}, which is not there"));
-        }
-        let rows = |relation| found(&self.rows, relation, || format!("no rows of {relation}"));
-        let divisor = |join| found(&self.divisors, join, || format!("no divisor of join {join}"));
-        let rows = (0..n).map(rows).collect::<Result<_, _>>()?;
-        let divisors = (0..n - 1).map(divisor).collect::<Result<_, _>>()?;
-        Ok(Some(RowCounts { rows, divisors }))
-    }
-
-    /// The size of every subquery, ascending.
-    pub fn sizes(&self, joins: &[Join]) -> Result<Vec<Bytes>, String> {
-        let subqueries = tree::subqueries(joins, joins.len() + 1);
-        if let Some(&(set, _)) = self.sizes.iter().find(|(set, _)| !subqueries.contains(set)) {
-            return Err(format!("{} are not connected by joins, so have no size", names(set)));
-        }
-        let size = |set| found(&self.sizes, set, || format!("no size of {}", names(set)));
-        subqueries.into_iter().map(|set| size(set).map(Bytes)).collect()
     }
 }
 
-fn add_once<K: PartialEq>(
-    told: &mut Vec<(K, u64)>,
-    key: K,
-    value: u64,
-    what: &str,
-) -> Result<(), String> {
-    if told.iter().any(|(known, _)| *known == key) {
-        return Err(format!("{what} there already"));
+/// The set of these relations, none of them twice.
+fn set(relations: &[Found], names: &Names, faults: &mut Faults) -> Option<Set> {
+    let (mut set, mut twice, mut faulty) = (0, 0, false);
+    for found in relations {
+        let Some((relation, place)) = *found else {
+            faulty = true;
+            continue;
+        };
+        if sets::holds(set, relation) && !sets::holds(twice, relation) {
+            twice |= sets::single(relation);
+            let reason = format!("{} stands twice in the set", names.the_relation(relation));
+            faults.tell(place, reason);
+        }
+        set |= sets::single(relation);
     }
-    told.push((key, value));
-    Ok(())
-}
-
-fn found<K: PartialEq>(
-    told: &[(K, u64)],
-    key: K,
-    missing: impl FnOnce() -> String,
-) -> Result<u64, String> {
-    let value = told.iter().find(|(known, _)| *known == key);
-    value.map(|&(_, value)| value).ok_or_else(missing)
+    (!faulty && twice == 0).then_some(set)
 }

@@ -1,77 +1,124 @@
-//! What the statements of a text come to together, once all are taken.
+//! What a text comes to as a whole, or what is missing in it.
 
-use crate::text::fault::Fault;
-use crate::text::statements::Statements;
 use reference::query::{Line, Query, Relation, Site};
 use reference::room::Draft;
+use reference::rows::RowCounts;
 use reference::sets;
-use reference::stated::Stated;
-use reference::tree;
+use reference::stated::{Form, Stated};
+use reference::tree::{self, Join};
+use reference::units::Bytes;
 
-impl Statements {
-    /// The draft. Whether its joins make a tree is for room to say, and nothing else is asked.
-    pub fn draft(self) -> Result<Draft, Fault> {
-        let (s, n) = self.counts()?;
-        Ok(Draft::new(n as u64, s as u64, &self.joins))
+use crate::text::fault::Faults;
+use crate::text::gathered::Gathered;
+use crate::text::missing::{self, DIVISORS, LINES, ROWS, SIZES};
+use crate::text::register::Kind;
+use crate::text::unknown;
+use crate::text::vocabulary::listed;
+
+impl Gathered<'_> {
+    /// What room is told; nothing where a fault was told.
+    pub fn draft(&mut self, faults: &mut Faults) -> Option<Draft> {
+        let joins = self.checked(faults)?;
+        let count = |kind| self.register.of(kind).count() as u64;
+        Some(Draft::new(count(Kind::Relation), count(Kind::Site), &joins))
     }
 
-    /// The query.
-    pub fn stated(self) -> Result<Stated, Fault> {
-        let (s, n) = self.counts()?;
-        let sites: Vec<Site> = self.sites.iter().cloned().collect::<Result<_, _>>()?;
-        let relations: Vec<Relation> = self.relations.iter().cloned().collect::<Result<_, _>>()?;
-        if let Some(relation) = relations.iter().position(|relation| relation.home >= s) {
-            return Err(format!("relation {relation} stands at a site that is not listed").into());
+    /// The query; nothing where a fault was told.
+    pub fn stated(&mut self, faults: &mut Faults) -> Option<Stated> {
+        let joins = self.checked(faults);
+        for &(place, left_out) in &self.bare {
+            faults.tell(place, format!("expected {left_out}, which only a draft leaves out"));
         }
-        let delivery = self.delivery.ok_or("no delivery".to_string())?;
-        if delivery >= s {
-            return Err("the delivery site is not listed".to_string().into());
+        if self.delivery.is_empty() && !self.register.unread {
+            faults.tell(self.end, "no delivery; expected 'delivery to' and a site");
         }
-        self.check_joins(n)?;
-        let counts = self.told.row_counts(n)?;
-        let sizes = match &counts {
-            Some(counts) => counts.sizes(&self.joins),
-            None => self.told.sizes(&self.joins)?,
+        let lines = self.lines_in_order(faults);
+        let joins = joins?;
+        let (sizes, counts) = match self.told.form() {
+            Form::Sizes => (self.sizes(&joins, faults)?, None),
+            Form::Rows => {
+                let counts = self.row_counts(&joins, faults)?;
+                (counts.sizes(&joins), Some(counts))
+            }
         };
-        let lines = self.lines_in_order()?;
-        let query = Query::new(sites, relations, self.joins, sizes, lines, delivery);
-        Ok(Stated { query, counts })
+        let sites: Vec<Site> = self.sites.iter().copied().collect::<Option<_>>()?;
+        let relations: Vec<Relation> = self.relations.iter().copied().collect::<Option<_>>()?;
+        let (lines, delivery) = (lines?, self.delivery.get(&())?);
+        if !faults.is_empty() {
+            return None;
+        }
+        let query = Query::new(sites, relations, joins, sizes, lines, delivery);
+        Some(Stated { query, counts })
     }
 
-    /// How many sites there are, and how many relations.
-    fn counts(&self) -> Result<(usize, usize), String> {
-        match (self.sites.len(), self.relations.len()) {
-            (0, _) => Err("no site".to_string()),
-            (_, 0) => Err("no relation".to_string()),
-            counts => Ok(counts),
+    /// The joins, where they make a tree; all that is told of a draft too.
+    fn checked(&mut self, faults: &mut Faults) -> Option<Vec<Join>> {
+        unknown::tell(&self.register, faults);
+        if self.register.sure(Kind::Site) == Some(0) {
+            faults.tell(self.end, "no site; expected 'site NAME may join, fixed F, rate R'");
         }
+        if self.register.sure(Kind::Relation) == Some(0) {
+            faults.tell(self.end, "no relation; expected 'relation NAME at SITE'");
+        }
+        let joins = self.tree(faults)?;
+        for &(set, place) in &self.told.sets {
+            if !tree::is_subquery(&joins, set) {
+                let relations: Vec<String> =
+                    sets::members(set).map(|one| self.names.the_relation(one)).collect();
+                let relations = listed(&relations, relations.len());
+                let reason = format!("{relations} are not connected by joins, so have no size");
+                faults.tell(place, reason);
+                self.told.sizes.withdraw();
+            }
+        }
+        Some(joins)
     }
 
-    fn check_joins(&self, n: usize) -> Result<(), String> {
-        if self.joins.len() != n - 1 {
-            return Err(format!("{n} relations need {} joins", n - 1));
+    /// The size of every subquery, ascending.
+    fn sizes(&self, joins: &[Join], faults: &mut Faults) -> Option<Vec<Bytes>> {
+        let subqueries = tree::subqueries(joins, joins.len() + 1);
+        let missing = self.told.sizes.missing(subqueries.iter().copied());
+        let missing: Vec<String> =
+            missing.into_iter().map(|set| format!("'{}'", self.names.set(set))).collect();
+        if !self.told.both && !self.register.unread {
+            missing::tell(&self.told.sizes, &SIZES, &missing, self.end, faults);
         }
-        let all = sets::everything(n);
-        if let Some(join) = self.joins.iter().position(|join| !join.within(all)) {
-            return Err(format!("join {join} names a relation that is not there"));
-        }
-        if tree::grown(&self.joins, 0, all, None) != all {
-            return Err("the joins do not reach all relations from relation 0".to_string());
-        }
-        Ok(())
+        let size = |set| self.told.sizes.get(set).map(Bytes);
+        subqueries.iter().map(size).collect()
     }
 
-    fn lines_in_order(&self) -> Result<Vec<Line>, String> {
-        let all: Vec<(usize, usize)> = Query::line_ends(self.sites.len()).collect();
-        if let Some(((sender, receiver), _)) =
-            self.lines.iter().find(|(ends, _)| !all.contains(ends))
-        {
-            return Err(format!("no line leads from {sender} to {receiver}"));
+    /// Rows of every relation and a divisor of every join.
+    fn row_counts(&self, joins: &[Join], faults: &mut Faults) -> Option<RowCounts> {
+        let (rows, divisors) = (&self.told.rows, &self.told.divisors);
+        if !self.told.both && !self.register.unread {
+            let missing = rows.missing(0..joins.len() + 1);
+            let missing: Vec<String> =
+                missing.into_iter().map(|one| self.names.the_relation(one)).collect();
+            missing::tell(rows, &ROWS, &missing, self.end, faults);
+            let missing = divisors.missing(0..joins.len());
+            let missing: Vec<String> =
+                missing.into_iter().map(|one| format!("join {one}")).collect();
+            missing::tell(divisors, &DIVISORS, &missing, self.end, faults);
         }
-        let find = |ends: &(usize, usize)| {
-            let named = self.lines.iter().find(|(known, _)| known == ends).map(|&(_, line)| line);
-            named.or(self.every_line).ok_or(format!("no line {} to {}", ends.0, ends.1))
+        let rows = (0..joins.len() + 1).map(|one| rows.get(&one)).collect::<Option<_>>()?;
+        let divisors = (0..joins.len()).map(|one| divisors.get(&one)).collect::<Option<_>>()?;
+        Some(RowCounts { rows, divisors })
+    }
+
+    fn lines_in_order(&self, faults: &mut Faults) -> Option<Vec<Line>> {
+        let ends: Vec<(usize, usize)> = Query::line_ends(self.register.sure(Kind::Site)?).collect();
+        if self.every_line.is_empty() {
+            let shown = |(sender, receiver)| {
+                format!("{} to {}", self.names.site(sender), self.names.site(receiver))
+            };
+            let missing = self.lines.missing(ends.iter().copied());
+            let missing: Vec<String> = missing.into_iter().map(shown).collect();
+            missing::tell(&self.lines, &LINES, &missing, self.end, faults);
+        }
+        let line = |ends: &(usize, usize)| match self.lines.has(ends) {
+            true => self.lines.get(ends),
+            false => self.every_line.get(&()),
         };
-        all.iter().map(find).collect()
+        ends.iter().map(line).collect()
     }
 }
