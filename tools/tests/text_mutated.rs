@@ -79,6 +79,36 @@ fn the_tool_ends_as_it_should() {
     }
 }
 
+/// Bytes that make no UTF-8 are told with a place too.
+#[test]
+fn changed_bytes_are_told_of() {
+    let mut no_text = 0;
+    for case in 0..3_000 {
+        let random = &mut Random::for_case(74, case);
+        let mut bytes = damaged(random).into_bytes();
+        for _ in 0..random.between(1, 3) {
+            let place = random.below(bytes.len() + 1);
+            bytes.insert(place, random.between(0, 255) as u8);
+        }
+        match text::decoded(&bytes, "t") {
+            Ok(text) => drop(text::parse(&text).map_err(|faults| held_to_places(&text, &faults))),
+            Err(Failure::Refused(reason)) => {
+                no_text += 1;
+                let place: Vec<usize> = reason
+                    .split(':')
+                    .skip(1)
+                    .take(2)
+                    .map(|number| number.parse().unwrap())
+                    .collect();
+                let before = bytes.split(|&byte| byte == b'\n').nth(place[0] - 1).unwrap();
+                assert!((1..=before.len()).contains(&place[1]), "{reason}");
+            }
+            Err(other) => panic!("{other:?}"),
+        }
+    }
+    assert!(no_text > 1_000, "{no_text}");
+}
+
 /// Words of the statements and odd ones in no order at all.
 #[test]
 fn heaps_of_words() {
