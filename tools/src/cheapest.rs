@@ -2,11 +2,11 @@
 
 use reference::units::Charge;
 
-use crate::calls::Solved;
 use crate::failure::Failure;
 use crate::listing;
-use crate::loaded::Loaded;
 use crate::priced::{self, Priced};
+use crate::proved::calls::Solved;
+use crate::proved::loaded::Loaded;
 
 /// What a solve answers, walked.
 #[derive(Clone, Debug, PartialEq, Eq)]
@@ -37,7 +37,7 @@ pub fn find(loaded: &mut Loaded) -> Result<Cheapest, Failure> {
     let sum = steps.last().map_or(0, |last| last.sum.0);
     if sum != cost {
         return Err(Failure::Fault(format!(
-            "the prices of the plan's steps come to {sum}, and the proved cost is {cost}"
+            "the proved cost is {cost}, and the prices of the plan's steps come to {sum}"
         )));
     }
     match loaded.calls.check(&bytes)? {

@@ -1,5 +1,7 @@
 //! Why a subcommand does not do what it was asked to.
 
+use std::fmt;
+
 /// What is said on standard error, by its exit code.
 #[derive(Clone, Debug, PartialEq, Eq)]
 pub enum Failure {
@@ -23,6 +25,17 @@ impl Failure {
     pub fn reason(&self) -> &str {
         match self {
             Failure::Refused(reason) | Failure::Usage(reason) | Failure::Fault(reason) => reason,
+        }
+    }
+}
+
+/// A refusal begins with the place or the number that it tells; before all else stands who says
+/// it.
+impl fmt::Display for Failure {
+    fn fmt(&self, f: &mut fmt::Formatter) -> fmt::Result {
+        match self {
+            Failure::Refused(reason) => write!(f, "{reason}"),
+            Failure::Usage(reason) | Failure::Fault(reason) => write!(f, "fanchuki: {reason}"),
         }
     }
 }

@@ -10,7 +10,7 @@ use reference::stated::{Form, Stated};
 use reference::{decode, encode};
 
 use crate::failure::Failure;
-use crate::refused_file;
+use crate::packed::refused::RefusedFile;
 use crate::text;
 
 /// A file of more bytes is neither a query nor a plan that anybody means.
@@ -23,7 +23,7 @@ pub struct Given {
     pub form: Form,
     pub names: Names,
     /// Where the file is refused: the number and the words for it.
-    pub stated: Result<Stated, refused_file::RefusedFile>,
+    pub stated: Result<Stated, RefusedFile>,
 }
 
 impl Given {
@@ -45,8 +45,7 @@ impl Given {
 
     pub fn packed(file: Vec<u8>, form: Form) -> Given {
         let stated = decode::decode(&file, form);
-        let stated =
-            stated.map_err(|refusal| refused_file::RefusedFile::find(&file, form, refusal));
+        let stated = stated.map_err(|refusal| RefusedFile::find(&file, form, refusal));
         Given { file, form, names: Names::default(), stated }
     }
 }

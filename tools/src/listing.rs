@@ -6,6 +6,9 @@ use reference::names::Names;
 use reference::query::Query;
 use reference::step::Step;
 
+use crate::failure::Failure;
+use crate::proved::answers::Solved;
+
 /// The steps of a plan's bytes; nothing where they are not a plan of the query.
 pub fn steps(query: &Query, plan: &[u8]) -> Option<Vec<Step>> {
     let (count, steps) = plan.split_first()?;
@@ -42,6 +45,18 @@ pub fn listing(names: &Names, steps: &[Step], cost: u64, trials: u64) -> String 
         writeln!(text, "{}", step(names, one)).expect("a string takes all");
     }
     text
+}
+
+/// What a solve answers: the listing, or that there is no route.
+pub fn solved(query: &Query, names: &Names, solved: &Solved) -> Result<String, Failure> {
+    match solved {
+        Solved::NoRoute { trials } => Ok(no_route(*trials)),
+        Solved::Plan { cost, trials, plan } => {
+            let steps = steps(query, plan)
+                .ok_or_else(|| Failure::Fault(format!("no plan of the query: {plan:?}")))?;
+            Ok(listing(names, &steps, *cost, *trials))
+        }
+    }
 }
 
 pub fn no_route(trials: u64) -> String {

@@ -20,7 +20,7 @@ fn main() -> ExitCode {
             ExitCode::from(done.code)
         }
         Err(failure) => {
-            let _ = writeln!(errors, "fanchuki: {}", failure.reason());
+            let _ = writeln!(errors, "{failure}");
             ExitCode::from(failure.code())
         }
     }

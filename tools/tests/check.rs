@@ -6,8 +6,8 @@ mod proved;
 use std::fs;
 
 use common::{example, held_to, run, run_on};
-use fanchuki::plan_text::{self, PlanText};
-use fanchuki::verdict::verdict;
+use fanchuki::checked::plan_text::{self, PlanText};
+use fanchuki::checked::verdict::verdict;
 use reference::generate::plans;
 use reference::generate::queries::{self, Extent};
 use reference::method::Method;
@@ -113,9 +113,10 @@ fn the_text_s_faults_refuse_it() {
     let (code, said) = check(Q, b"load 0\nlod 1\n\nsend\n");
     assert_eq!(code, 1);
     let lines: Vec<&str> = said.lines().collect();
-    assert_eq!(lines.len(), 2, "{said}");
-    assert!(lines[0].starts_with("fanchuki: standard input: line 2, column 1: 'lod' "), "{said}");
-    assert!(lines[1].starts_with("standard input: line 4, column 5: "), "{said}");
+    assert_eq!(lines.len(), 7, "{said}");
+    assert!(lines[0].starts_with("standard input:2:1: 'lod' "), "{said}");
+    assert!(lines[3].starts_with("standard input:4:5: "), "{said}");
+    assert_eq!((lines[5], lines[6]), ("      ^", "2 faults"), "{said}");
     assert_eq!(check(Q, b"load \xff\n").0, 1);
 }
 
@@ -126,9 +127,8 @@ fn at_most_34_steps() {
     assert!(code == 1 && said.starts_with("refused 9 at step 1 (line 2), load 0: "), "{said}");
     let (code, said) = check(Q, format!("{longest}\nload 0\nload 0\n").as_bytes());
     assert_eq!(code, 1);
-    assert!(
-        said.ends_with("line 36, column 1: a plan has at most 34 steps, and this is one more\n")
-    );
+    let told = ":36:1: a plan has at most 34 steps, and this is one more\n  load 0\n  ^\n";
+    assert!(said.ends_with(told), "{said}");
 }
 
 #[test]

@@ -62,7 +62,10 @@ fn another_verdict_of_check() {
 #[test]
 fn a_solve_that_does_not_go_with_check() {
     for (answer, said) in [
-        (vec![&solved(22)[..], "cells OK"], "check answers 21, and solve 22"),
+        (
+            vec![&solved(22)[..], "cells OK"],
+            "the proved cost is 22, and the prices of the plan's steps come to 21",
+        ),
         (vec!["no-route 3", "cells OK", "output OK"], "check answers 21, and solve no route"),
         (vec![&solved(21), "cells CHANGED"], "the program 'calls' answered 'cells CHANGED'"),
     ] {
@@ -82,7 +85,11 @@ fn another_answer_of_solve_or_link() {
     let (today, ok) = (solved(21), "cells OK");
     let cheaper = solved(20);
     for (words, lines, said) in [
-        (vec!["1", "0"], vec![LOAD, &cheaper, ok], "solve answers 20, the tool comes to 21"),
+        (
+            vec!["1", "0"],
+            vec![LOAD, &cheaper, ok],
+            "cost is 20, and the prices of the plan's steps come to 21",
+        ),
         (
             vec!["1", "0"],
             vec![LOAD, &today, ok, "refused 6"],
@@ -101,7 +108,7 @@ fn another_answer_of_solve_or_link() {
         (
             vec!["1", "0", "fixed", "2"],
             vec![LOAD, &today, ok, "link", &today, ok],
-            "solve answers 21, the tool comes to 22",
+            "cost is 21, and the prices of the plan's steps come to 22",
         ),
     ] {
         let said = format!("fanchuki: the proved {said}\n");

@@ -92,7 +92,7 @@ fn no_route_is_not_drawn() {
     let out = path(&empty("no-route"), "plan.dot");
     let ended = run_on(&["draw", "-", "-o", &out], closed.as_bytes());
     assert_eq!((ended.code, ended.text()), (1, String::new()));
-    assert_eq!(ended.said, "fanchuki: no route trials 3: there is no plan to draw\n");
+    assert_eq!(ended.said, "no route trials 3: there is no plan to draw\n");
     assert!(!Path::new(&out).exists());
 }
 
@@ -102,7 +102,7 @@ fn a_sum_that_is_not_the_proved_cost_is_not_drawn() {
     let words = ["draw", &example("q.txt"), "-o", &out];
     let ended = run_with(&CALLS_OF_Q.replace("solved 21", "solved 20"), &words);
     assert_eq!((ended.code, ended.text()), (3, String::new()));
-    let said = "fanchuki: the prices of the plan's steps come to 21, and the proved cost is 20\n";
+    let said = "fanchuki: the proved cost is 20, and the prices of the plan's steps come to 21\n";
     assert_eq!(ended.said, said);
     assert!(!Path::new(&out).exists());
     assert_eq!(run_with(CALLS_OF_Q, &words).code, 0);

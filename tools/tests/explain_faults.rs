@@ -8,6 +8,17 @@ use std::fs::OpenOptions;
 use common::{example, held_to, run, tool};
 use stand_in::{run_with, CALLS_OF_Q};
 
+const NOT_THE_CHEAPEST: &str = "\
+load 2 3
+solved 24 11 3 0501000201010103000200
+cells OK
+check 24
+link
+solved 21 9 3 040100010102000300
+cells OK
+link
+";
+
 #[test]
 fn a_sum_that_is_not_the_proved_cost_is_a_fault() {
     let told = |answers: &str| {
@@ -17,7 +28,7 @@ fn a_sum_that_is_not_the_proved_cost_is_a_fault() {
     };
     assert_eq!(
         told(&CALLS_OF_Q.replace("solved 21", "solved 22")),
-        "fanchuki: the prices of the plan's steps come to 21, and the proved cost is 22\n"
+        "fanchuki: the proved cost is 22, and the prices of the plan's steps come to 21\n"
     );
     assert_eq!(
         told(&CALLS_OF_Q.replace("check 21", "check 20")),
@@ -27,14 +38,15 @@ fn a_sum_that_is_not_the_proved_cost_is_a_fault() {
         told(&CALLS_OF_Q.replace("check 21", "refused 10 2")),
         "fanchuki: the proved check refuses the proved plan: refused 10\n"
     );
-    assert_eq!(
-        told(&CALLS_OF_Q.replace("solved 26", "solved 20")),
-        "fanchuki: with less allowed the proved cost is 20, and before it was 21\n"
-    );
-    // A send to where it stands.
+    // A relation that is not there.
     assert_eq!(
         told(&CALLS_OF_Q.replace("0401000101", "0401000102")),
-        "fanchuki: by the tool's rules the proved plan [4, 1, 0, 1, 2, 2, 0, 3, 0] is not allowed\n"
+        "fanchuki: the proved cost is 21, and the tool refuses the plan with 8\n"
+    );
+    // Not the cheapest at first: relation 0 goes to site 1, and the result back.
+    assert_eq!(
+        told(NOT_THE_CHEAPEST),
+        "fanchuki: with less allowed the proved cost is 21, and before it was 24\n"
     );
 }
 

@@ -32,7 +32,8 @@ fn scratch(name: &str) -> PathBuf {
 fn refused(run: &Run, code: i32, said: &str) {
     assert_eq!((run.code, run.printed.len()), (code, 0), "{}", run.said);
     let first = run.said.lines().next().expect("something is said");
-    assert!(first.starts_with("fanchuki: ") && first.ends_with(said), "{first}");
+    assert_eq!(first.starts_with("fanchuki: "), code != 1, "{first}");
+    assert!(first.ends_with(said), "{first}");
 }
 
 #[test]

@@ -3,9 +3,9 @@
 mod common;
 mod proved;
 
-use fanchuki::calls::Solved;
-use fanchuki::loaded::Loaded;
-use fanchuki::margins::{self, Margins};
+use fanchuki::proved::calls::Solved;
+use fanchuki::proved::loaded::Loaded;
+use fanchuki::whatif::margins::{self, Margins};
 use reference::check;
 use reference::generate::queries::{self, Extent};
 use reference::limits::{MOST_FIXED, MOST_RATE};

@@ -3,8 +3,8 @@
 mod common;
 
 use common::held_to;
+use fanchuki::checked::plan_text;
 use fanchuki::listing;
-use fanchuki::plan_text;
 use reference::generate::queries::{self, Extent};
 use reference::limits::MOST_STEPS;
 use reference::method::Method;
@@ -109,8 +109,11 @@ fn thousands_of_damaged_texts_are_taken_or_told_with_their_place() {
                 met[1] += 1;
                 assert!(!faults.is_empty());
                 for fault in faults {
-                    let line = text.lines().nth(fault.line - 1).expect("the fault's line");
-                    assert!((1..=1 + line.chars().count()).contains(&fault.column), "{fault}");
+                    let line = text.lines().nth(fault.place.line - 1).expect("the fault's line");
+                    assert!(
+                        (1..=1 + line.chars().count()).contains(&fault.place.column),
+                        "{fault}"
+                    );
                     assert!(fault.reason.len() > 10);
                 }
             }
@@ -132,5 +135,5 @@ fn a_long_line() {
     let text = format!("load 0\n{}\n", "1, ".repeat(300_000));
     let faults = plan_text::parse(&text, &Names::default()).expect_err("a fault");
     assert_eq!(faults.len(), 1);
-    assert_eq!((faults[0].line, faults[0].column), (2, 7));
+    assert_eq!((faults[0].place.line, faults[0].place.column), (2, 7));
 }

@@ -5,8 +5,8 @@ mod common;
 mod proved;
 
 use common::{example, held_to, run, run_on};
-use fanchuki::calls::Calls;
 use fanchuki::given::Given;
+use fanchuki::proved::calls::Calls;
 use reference::encode::{self, Meaning};
 use reference::generate::queries::Extent;
 use reference::generate::{damage, files, rows};

@@ -24,7 +24,7 @@ fn figures(subqueries: u64, cells: u64, trials: u64) -> (i32, String, String) {
 }
 
 fn refused(said: &str) -> (i32, String, String) {
-    (1, String::new(), format!("fanchuki: {said}\n"))
+    (1, String::new(), format!("{said}\n"))
 }
 
 fn room(input: &[u8]) -> (i32, String, String) {

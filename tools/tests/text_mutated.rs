@@ -72,7 +72,7 @@ fn the_tool_ends_as_it_should() {
             }
             Err(faults) => {
                 assert_eq!((ended.code, ended.printed.len()), (1, 0), "{}\n{text}", ended.said);
-                let told = format!("fanchuki: standard input:{}\n", faults[0]);
+                let told = format!("standard input:{}\n", faults[0]);
                 assert!(ended.said.starts_with(&told), "{told}{}", ended.said);
             }
         }

@@ -42,7 +42,7 @@ fn its_faults_are_told_so() {
     let Failure::Refused(told) = refused("orders.txt", faulty.as_bytes(), &faults) else {
         panic!("a refusal");
     };
-    assert_eq!(format!("fanchuki: {told}\n"), *shown);
+    assert_eq!(format!("{told}\n"), *shown);
 }
 
 /// Each statement of the table is one, as it stands.

@@ -3,7 +3,7 @@
 mod common;
 
 use common::{example, held_to, run, run_on};
-use fanchuki::changes::Change;
+use fanchuki::whatif::changes::Change;
 use reference::names::Names;
 
 /// What is printed of an example, with the words behind its name.
@@ -84,7 +84,7 @@ fn what_link_refuses() {
     ] {
         let run = run(&[&["whatif", &q, "--line"], &words[..]].concat());
         assert_eq!((run.code, run.printed.len()), (1, 0), "{words:?}");
-        assert_eq!(run.said, format!("fanchuki: {said}\n"));
+        assert_eq!(run.said, format!("{said}\n"));
     }
 }
 
@@ -110,7 +110,7 @@ fn usage() {
         (
             [&[&q[..]], &line[..], &["fixd", "2"]].concat(),
             "'fixd' says nothing of a line: it is open, closed, fixed F or rate R; \
-             'fixed' may be meant",
+             did you mean 'fixed'?",
         ),
         ([&[&q[..]], &line[..], &line[..]].concat(), "the line 1 to 0 is named twice"),
         (vec![&q, "--line", "north", "0"], "no site 'north'"),
@@ -135,5 +135,5 @@ fn sites_by_name() {
     assert_eq!((change.sender, change.receiver), (2, 1));
     assert_eq!((change.open, change.fixed, change.rate), (Some(false), None, Some(4)));
     let said = read(&["nroth", "1"]).expect_err("no such site");
-    assert_eq!((said.code(), said.reason()), (2, "no site 'nroth'; 'north' may be meant"));
+    assert_eq!((said.code(), said.reason()), (2, "no site 'nroth'; did you mean 'north'?"));
 }

@@ -4,14 +4,14 @@ use std::ffi::{OsStr, OsString};
 
 use reference::names::Names;
 
+use crate::checked::plan_text::{self, PlanText};
+use crate::checked::verdict;
 use crate::commands::Command;
 use crate::done::Done;
 use crate::failure::Failure;
 use crate::given::{self, Given};
-use crate::loaded::Loaded;
-use crate::plan_text::{self, PlanText};
+use crate::proved::loaded::Loaded;
 use crate::text;
-use crate::verdict;
 use crate::words::Words;
 
 pub const COMMAND: Command = Command { name: "check", help: HELP, run };
@@ -54,8 +54,6 @@ fn read(name: &OsStr, names: &Names) -> Result<PlanText, Failure> {
         return Ok(PlanText { plan: bytes, lines: Vec::new() });
     }
     let shown = given::shown(name);
-    plan_text::parse(&text::decoded(&bytes, &shown)?, names).map_err(|faults| {
-        let told: Vec<String> = faults.iter().map(|fault| format!("{shown}: {fault}")).collect();
-        Failure::Refused(told.join("\n"))
-    })
+    plan_text::parse(&text::decoded(&bytes, &shown)?, names)
+        .map_err(|faults| text::refused(&shown, &bytes, &faults))
 }

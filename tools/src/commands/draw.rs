@@ -10,8 +10,8 @@ use crate::drawn;
 use crate::drawn::graphviz::{self, Picture};
 use crate::failure::Failure;
 use crate::given::Given;
-use crate::loaded::Loaded;
 use crate::output;
+use crate::proved::loaded::Loaded;
 use crate::words::Words;
 
 pub const COMMAND: Command = Command { name: "draw", help: HELP, run };

@@ -8,7 +8,7 @@ use crate::done::Done;
 use crate::explained::{no_route, Explained};
 use crate::failure::Failure;
 use crate::given::Given;
-use crate::loaded::Loaded;
+use crate::proved::loaded::Loaded;
 use crate::words::Words;
 
 pub const COMMAND: Command = Command { name: "explain", help: HELP, run };

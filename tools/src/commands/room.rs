@@ -7,11 +7,11 @@ use reference::names::Names;
 use reference::room::{self, Draft, Figures};
 use reference::tree::Join;
 
-use crate::calls::Calls;
 use crate::commands::Command;
 use crate::done::Done;
 use crate::failure::Failure;
 use crate::given;
+use crate::proved::calls::Calls;
 use crate::text;
 use crate::wording;
 use crate::words::Words;

@@ -6,16 +6,15 @@ use reference::names::Names;
 use reference::query::Line;
 use reference::units::{Charge, Rate};
 
-use crate::calls::Solved;
-use crate::changes::{self, Change};
 use crate::commands::Command;
 use crate::done::Done;
 use crate::failure::Failure;
 use crate::given::Given;
-use crate::lines::{self, Ends};
-use crate::loaded::Loaded;
-use crate::margins;
-use crate::whatif_text as told;
+use crate::proved::calls::Solved;
+use crate::proved::loaded::{Ends, Loaded};
+use crate::whatif::changes::{self, Change};
+use crate::whatif::margins;
+use crate::whatif::told;
 use crate::words::Words;
 
 pub const COMMAND: Command = Command { name: "whatif", help: HELP, run };
@@ -43,16 +42,16 @@ fn run(words: &[OsString]) -> Result<Done, Failure> {
     let given = Given::read(file, words.has("--rows"))?;
     let changes = read(&asked, &given.names)?;
     let mut loaded = Loaded::load(given)?;
-    let before = lines::solve(&mut loaded)?;
+    let before = loaded.solve()?;
     let mut text = told::before(&loaded, &before)?;
     let today: Vec<(Ends, Line)> =
         changes.iter().map(|change| apply(&mut loaded, change)).collect::<Result<_, _>>()?;
-    let after = lines::solve(&mut loaded)?;
+    let after = loaded.solve()?;
     if changes.iter().any(|change| !change.is_empty()) {
         text += &told::after(&loaded, &today, [&before, &after])?;
     }
     for &(ends, line) in &today {
-        lines::replace(&mut loaded, ends, line)?;
+        loaded.link(ends, line)?;
     }
     for &(ends, _) in &today {
         text += &margins_of(&mut loaded, &before, ends)?;

@@ -16,7 +16,7 @@ use reference::units::Charge;
 use crate::cheapest::Plan;
 use crate::explained::parts::{LinePart, Part, SitePart};
 use crate::failure::Failure;
-use crate::loaded::Loaded;
+use crate::proved::loaded::Loaded;
 
 pub struct Explained {
     pub plan: Plan,

@@ -1,13 +1,12 @@
 //! What the cheapest plan costs that does without a line, or without joins at a site, by the
 //! proved answers.
 
-use reference::planner::Link;
 use reference::query::Line;
 use reference::stated::Form;
 
-use crate::calls::Solved;
 use crate::failure::Failure;
-use crate::loaded::Loaded;
+use crate::proved::calls::Solved;
+use crate::proved::loaded::Loaded;
 
 /// In both forms of the file: behind the count of sites, and so many bytes for each, of which
 /// the first is the flag.
@@ -18,9 +17,9 @@ const SITE_BYTES: usize = 9;
 /// afterwards.
 pub fn without_line(loaded: &mut Loaded, from: usize, to: usize) -> Result<Option<u64>, Failure> {
     let line = *loaded.query.line(from, to);
-    link(loaded, from, to, &Line { open: false, ..line })?;
+    loaded.link((from, to), Line { open: false, ..line })?;
     let next = cost(loaded)?;
-    link(loaded, from, to, &line)?;
+    loaded.link((from, to), line)?;
     Ok(next)
 }
 
@@ -47,17 +46,6 @@ fn cost(loaded: &mut Loaded) -> Result<Option<u64>, Failure> {
         Solved::Plan { cost, .. } => Some(cost),
         Solved::NoRoute { .. } => None,
     })
-}
-
-fn link(loaded: &mut Loaded, from: usize, to: usize, line: &Line) -> Result<(), Failure> {
-    let linked = loaded.calls.link(Link {
-        sender: from as u64,
-        receiver: to as u64,
-        open: u64::from(line.open),
-        fixed: line.fixed.0,
-        rate: line.rate.0,
-    })?;
-    linked.map_err(|refused| Failure::Fault(format!("link answers {refused:?}")))
 }
 
 fn load(loaded: &mut Loaded, file: &[u8], form: Form) -> Result<(), Failure> {

@@ -11,14 +11,13 @@ mod fault;
 mod gathered;
 mod joins;
 mod missing;
-mod near;
 mod once;
 mod ordered;
 mod read;
 mod reading;
 mod refer;
 mod register;
-mod scan;
+pub mod scan;
 mod shown;
 mod statement;
 mod terms;
@@ -27,7 +26,7 @@ mod unknown;
 mod vocabulary;
 mod whole;
 
-pub use fault::{Fault, Place};
+pub use fault::{Fault, Faults, Place};
 pub use shown::{decoded, refused};
 pub use vocabulary::is_name;
 
@@ -35,7 +34,6 @@ use reference::names::Names;
 use reference::room::Draft;
 use reference::stated::Stated;
 
-use fault::Faults;
 use gathered::Gathered;
 
 /// A query as a text states it, and what the text calls its sites and relations.

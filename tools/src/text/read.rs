@@ -2,8 +2,8 @@
 
 use reference::limits::{MOST_DIVISOR, MOST_ROWS, MOST_SIZE};
 
+use crate::near::near;
 use crate::text::fault::Faults;
-use crate::text::near::near;
 use crate::text::reading::{Limits, Read, Reading};
 use crate::text::scan::Word;
 use crate::text::statement::{Said, Statement};

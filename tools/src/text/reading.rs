@@ -1,7 +1,7 @@
 //! The words of one statement, taken one after the other.
 
+use crate::near::near;
 use crate::text::fault::{Faults, Place};
-use crate::text::near::near;
 use crate::text::scan::Word;
 use crate::text::vocabulary::{is_name, is_number, is_taken, quoted, NAME_RULE};
 

@@ -4,7 +4,7 @@ use reference::limits::{MOST_FIXED, MOST_RATE};
 use reference::query::{Line, Site};
 use reference::units::{Charge, Rate};
 
-use crate::text::near::near;
+use crate::near::near;
 use crate::text::read::{RELATION, SITE};
 use crate::text::reading::{Limits, Read, Reading};
 use crate::text::statement::{Called, Home, Said, Terms, Which};

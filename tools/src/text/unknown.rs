@@ -1,7 +1,7 @@
 //! What is said of words that call no site, relation or join.
 
+use crate::near::near;
 use crate::text::fault::Faults;
-use crate::text::near::near;
 use crate::text::ordered::Ordered;
 use crate::text::register::{Kind, Register};
 use crate::text::vocabulary::{is_number, listed, quoted};

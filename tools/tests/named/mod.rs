@@ -3,7 +3,7 @@
 use std::path::Path;
 
 use fanchuki::given::Given;
-use fanchuki::loaded::Loaded;
+use fanchuki::proved::loaded::Loaded;
 use reference::names::Names;
 
 fn all<const COUNT: usize>(names: [&str; COUNT]) -> Vec<Option<String>> {

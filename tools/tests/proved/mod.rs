@@ -5,8 +5,8 @@
 
 use std::env;
 
-use fanchuki::calls::Calls;
-use fanchuki::loaded::Loaded;
+use fanchuki::proved::calls::Calls;
+use fanchuki::proved::loaded::Loaded;
 use reference::encode;
 use reference::names::Names;
 use reference::query::Query;

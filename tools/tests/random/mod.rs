@@ -7,7 +7,7 @@ use std::fs;
 use std::path::Path;
 
 use fanchuki::given::Given;
-use fanchuki::loaded::Loaded;
+use fanchuki::proved::loaded::Loaded;
 use reference::encode;
 use reference::generate::queries::{self, Extent};
 use reference::generate::rows;

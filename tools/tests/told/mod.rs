@@ -46,7 +46,8 @@ pub fn ended(command: &mut Command) -> Run {
 /// It ends with this code, prints nothing, and says this among little else.
 pub fn is_told(run: &Run, code: i32, said: &str, what: &str) {
     assert_eq!((run.code, run.text().as_str()), (code, ""), "{what}: {}", run.said);
-    assert!(run.said.starts_with("fanchuki: ") && run.said.contains(said), "{what}: {}", run.said);
+    assert_eq!(run.said.starts_with("fanchuki: "), code != 1, "{what}: {}", run.said);
+    assert!(run.said.contains(said), "{what}: {}", run.said);
     assert!(!run.said.contains("panicked") && run.said.len() < 2_000, "{what}: {}", run.said);
 }
 

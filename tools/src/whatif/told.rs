@@ -5,12 +5,12 @@ use std::cmp::Ordering;
 use reference::limits::{MOST_FIXED, MOST_RATE};
 use reference::query::Line;
 
-use crate::calls::Solved;
 use crate::failure::Failure;
-use crate::lines::{self, Ends};
 use crate::listing;
-use crate::loaded::Loaded;
-use crate::margins::Margins;
+use crate::proved::calls::Solved;
+use crate::proved::loaded::{Ends, Loaded};
+use crate::whatif::lines;
+use crate::whatif::margins::Margins;
 
 pub fn before(loaded: &Loaded, before: &Solved) -> Result<String, Failure> {
     Ok(format!("before: {}", listed(loaded, before)?))
@@ -42,16 +42,8 @@ pub fn after(
     Ok(text + &difference(before, after) + "\n")
 }
 
-/// The listing, or that there is no route.
 fn listed(loaded: &Loaded, solved: &Solved) -> Result<String, Failure> {
-    match solved {
-        Solved::NoRoute { trials } => Ok(listing::no_route(*trials)),
-        Solved::Plan { cost, trials, plan } => {
-            let steps = listing::steps(&loaded.query, plan)
-                .ok_or_else(|| Failure::Fault(format!("no plan of the query: {plan:?}")))?;
-            Ok(listing::listing(&loaded.names, &steps, *cost, *trials))
-        }
-    }
+    listing::solved(&loaded.query, &loaded.names, solved)
 }
 
 fn difference(before: &Solved, after: &Solved) -> String {

@@ -1,4 +1,4 @@
-//! The lines that the proved program `calls` answers, read.
+//! What the proved programs print, read: the lines of `calls`, and the listing of `plan`.
 
 use reference::planner::Loaded;
 use reference::room::Figures;
@@ -88,6 +88,43 @@ pub fn room(words: &[&str]) -> Option<Figures> {
         }),
         _ => None,
     }
+}
+
+/// The listing of the program `plan`.
+pub fn listing(printed: &str) -> Option<Result<Solved, Refused>> {
+    let mut lines = printed.strip_suffix('\n')?.split('\n');
+    let heading: Vec<&str> = lines.next()?.split(' ').collect();
+    let steps: Vec<[u8; 2]> = lines.map(step).collect::<Option<_>>()?;
+    match heading[..] {
+        ["plan", count, "cost", cost, "trials", trials] => {
+            let count: u8 =
+                count.parse().ok().filter(|&count| usize::from(count) == steps.len())?;
+            Some(Ok(Solved::Plan {
+                cost: cost.parse().ok()?,
+                trials: trials.parse().ok()?,
+                plan: [vec![count], steps.concat()].concat(),
+            }))
+        }
+        ["no", "route", "trials", trials] if steps.is_empty() => {
+            Some(Ok(Solved::NoRoute { trials: trials.parse().ok()? }))
+        }
+        ["refused", number] if steps.is_empty() => {
+            Some(Err(Refused { number: number.parse().ok()?, place: None }))
+        }
+        _ => None,
+    }
+}
+
+/// A line of the listing: kind and argument.
+fn step(line: &str) -> Option<[u8; 2]> {
+    let (word, argument) = line.split_once(' ')?;
+    let kind = match word {
+        "load" => 1,
+        "send" => 2,
+        "join" => 3,
+        _ => return None,
+    };
+    Some([kind, argument.parse().ok()?])
 }
 
 fn bytes(hex: &str) -> Option<Vec<u8>> {

@@ -7,7 +7,7 @@ use reference::decode;
 use reference::refusal::Refusal;
 use reference::stated::Form;
 
-use crate::file_walk;
+use crate::packed::walk;
 
 #[derive(Clone, Debug, PartialEq, Eq)]
 pub struct RefusedFile {
@@ -23,7 +23,7 @@ impl RefusedFile {
     /// The file that is refused so. The words come from a walk of its own over the fields; where
     /// that ends otherwise they say so.
     pub fn find(file: &[u8], form: Form, refusal: Refusal) -> RefusedFile {
-        let reason = match file_walk::walk(file, form) {
+        let reason = match walk::walk(file, form) {
             Err(found) if found.number == refusal.number() => found.reason,
             Err(found) => format!("the tool's words are for another refusal, {found}"),
             Ok(()) => "the tool finds nothing wrong with it".to_string(),

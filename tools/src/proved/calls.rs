@@ -11,10 +11,10 @@ use reference::room::{Draft, Figures};
 use reference::script::Call;
 use reference::stated::Form;
 
-use crate::answers;
-pub use crate::answers::{Refused, Solved};
 use crate::failure::Failure;
-use crate::programs;
+use crate::proved::answers;
+pub use crate::proved::answers::{Refused, Solved};
+use crate::proved::programs;
 
 /// The most bytes that a record carries.
 const MOST_CARRIED: usize = 65_535;

@@ -2,7 +2,7 @@
 
 use reference::refusal::Refusal;
 
-use crate::refused_file::RefusedFile;
+use crate::packed::refused::RefusedFile;
 use crate::wording;
 
 /// The file, and where its next field begins.

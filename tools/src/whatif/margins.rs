@@ -11,10 +11,10 @@ use reference::limits::{MOST_FIXED, MOST_RATE};
 use reference::query::Line;
 use reference::units::{Charge, Rate};
 
-use crate::calls::Solved;
 use crate::failure::Failure;
-use crate::lines::{self, Ends};
-use crate::loaded::Loaded;
+use crate::proved::calls::Solved;
+use crate::proved::loaded::{Ends, Loaded};
+use crate::whatif::lines;
 
 #[derive(Clone, Copy, Debug, PartialEq, Eq)]
 pub enum Margins {
@@ -30,15 +30,15 @@ pub fn margins(loaded: &mut Loaded, today: &[u8], ends: Ends) -> Result<Margins,
     let line = *loaded.query.line(ends.0, ends.1);
     let used = lines::uses(&loaded.query, today, ends);
     let found = if used { rise(loaded, today, ends, line) } else { fall(loaded, ends, line) };
-    lines::replace(loaded, ends, line)?;
+    loaded.link(ends, line)?;
     found
 }
 
 fn rise(loaded: &mut Loaded, today: &[u8], ends: Ends, line: Line) -> Result<Margins, Failure> {
     let mut cheapest = |changed: Line| {
-        lines::replace(loaded, ends, changed)?;
+        loaded.link(ends, changed)?;
         let checked = loaded.calls.check(today)?;
-        match (lines::solve(loaded)?, checked) {
+        match (loaded.solve()?, checked) {
             (Solved::Plan { cost, .. }, Ok(checked)) => Ok(cost == checked),
             _ => Err(Failure::Fault("today's plan is refused at another price of its line".into())),
         }
@@ -54,8 +54,8 @@ fn rise(loaded: &mut Loaded, today: &[u8], ends: Ends, line: Line) -> Result<Mar
 fn fall(loaded: &mut Loaded, ends: Ends, line: Line) -> Result<Margins, Failure> {
     let opened = Line { open: true, ..line };
     let mut used = |changed: Line| {
-        lines::replace(loaded, ends, changed)?;
-        Ok(match lines::solve(loaded)? {
+        loaded.link(ends, changed)?;
+        Ok(match loaded.solve()? {
             Solved::Plan { plan, .. } => lines::uses(&loaded.query, &plan, ends),
             Solved::NoRoute { .. } => false,
         })

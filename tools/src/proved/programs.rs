@@ -8,6 +8,7 @@ use std::process::{Child, Command, Stdio};
 use std::thread;
 
 use crate::failure::Failure;
+use crate::proved::answers::{self, Refused, Solved};
 
 /// Names the folder with `plan` and `calls`, where it is set. An empty name counts as none: a
 /// program's bare name would be looked for among the system's.
@@ -52,8 +53,8 @@ pub fn start(program: &Path) -> Result<Child, Failure> {
     child.map_err(|error| failed(program, error))
 }
 
-/// What `plan` prints for an ordinary file.
-pub fn plan(file: &[u8]) -> Result<String, Failure> {
+/// What `plan` answers for an ordinary file.
+pub fn plan(file: &[u8]) -> Result<Result<Solved, Refused>, Failure> {
     let program = find("plan")?;
     let mut child = start(&program)?;
     let mut stdin = child.stdin.take().expect("standard input is piped");
@@ -67,10 +68,9 @@ pub fn plan(file: &[u8]) -> Result<String, Failure> {
     if !ended.status.success() {
         return Err(failed(&program, format!("ended by {}", ended.status)));
     }
-    String::from_utf8(ended.stdout).map_err(|printed| {
-        let printed = String::from_utf8_lossy(printed.as_bytes()).into_owned();
-        failed(&program, format!("not a listing: {}", quoted(&printed)))
-    })
+    let printed = String::from_utf8_lossy(&ended.stdout);
+    answers::listing(&printed)
+        .ok_or_else(|| failed(&program, format!("not a listing: {}", quoted(&printed))))
 }
 
 /// A fault of that program.

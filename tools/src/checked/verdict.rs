@@ -7,13 +7,13 @@ use reference::names::Names;
 use reference::refusal::Refusal;
 use reference::units::Charge;
 
-use crate::broken;
-use crate::calls::{Refused, Solved};
+use crate::checked::broken;
+use crate::checked::plan_text::PlanText;
 use crate::done::Done;
 use crate::failure::Failure;
 use crate::listing;
-use crate::loaded::Loaded;
-use crate::plan_text::PlanText;
+use crate::proved::calls::{Refused, Solved};
+use crate::proved::loaded::Loaded;
 
 /// Where the model does not come to the same, that is told.
 pub fn verdict(loaded: &mut Loaded, plan: &PlanText) -> Result<Done, Failure> {

@@ -8,7 +8,7 @@ use reference::planner::Link;
 use reference::query::{Line, Query};
 
 use crate::failure::Failure;
-use crate::near;
+use crate::near::did_you_mean;
 use crate::wording;
 
 /// What stands behind one `--line`; the sites need not be listed.
@@ -88,8 +88,7 @@ fn site(word: &str, names: &Names) -> Result<u64, Failure> {
         return Ok(number as u64);
     }
     word.parse().map_err(|_| {
-        let meant = near::nearest(word, names.sites.iter().flatten().map(String::as_str));
-        let meant = meant.map_or_else(String::new, |meant| format!("; '{meant}' may be meant"));
+        let meant = did_you_mean(word, names.sites.iter().flatten().map(String::as_str));
         Failure::Usage(format!("no site '{word}'{meant}"))
     })
 }
@@ -110,8 +109,7 @@ fn once<T>(place: &mut Option<T>, value: T, what: &str) -> Result<(), Failure> {
 }
 
 fn unknown(word: &str) -> Failure {
-    let meant = near::nearest(word, ["open", "closed", "fixed", "rate"]);
-    let meant = meant.map_or_else(String::new, |meant| format!("; '{meant}' may be meant"));
+    let meant = did_you_mean(word, ["open", "closed", "fixed", "rate"]);
     Failure::Usage(format!(
         "'{word}' says nothing of a line: it is open, closed, fixed F or rate R{meant}"
     ))

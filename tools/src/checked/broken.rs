@@ -8,7 +8,7 @@ use reference::rules::Stack;
 use reference::sets;
 use reference::step::Step;
 
-use crate::not_allowed;
+use crate::checked::not_allowed;
 use crate::wording;
 
 /// The reason for a refusal of check, which is the model's for this plan.

@@ -10,8 +10,8 @@ use reference::sets;
 use reference::stated::Form;
 use reference::tree::{self, Join};
 
-use crate::file_fields::Fields;
-use crate::refused_file::RefusedFile;
+use crate::packed::fields::Fields;
+use crate::packed::refused::RefusedFile;
 use crate::wording;
 
 /// Nothing where no field is refused.

@@ -1,0 +1,76 @@
+//! A step of a plan as the words of a line, read.
+
+use reference::names::Names;
+
+use crate::near::did_you_mean;
+use crate::text::scan::Word;
+use crate::text::Place;
+
+/// A reason, and where.
+pub type Wrong = (Place, String);
+
+/// Kind and argument.
+pub fn step(first: &Word, rest: &[Word], names: &Names) -> Result<[u8; 2], Wrong> {
+    match first.text {
+        "load" => Ok([1, argument(first, rest, &["relation"], "relation", &names.relations)?]),
+        "send" => Ok([2, argument(first, rest, &["to", "site"], "site", &names.sites)?]),
+        "join" => Ok([3, argument(first, rest, &[], "join", &[])?]),
+        "no" => Err((first.place, "where there is no route there is no plan to check".into())),
+        kind if kind.parse::<u64>().is_ok() => {
+            Ok([byte(first)?, argument(first, rest, &[], "number", &[])?])
+        }
+        word => {
+            let meant = did_you_mean(word, ["load", "send", "join"]);
+            let expected = "one is 'load RELATION', 'send SITE' or 'join NUMBER'";
+            Err((first.place, format!("'{word}' is no step: {expected}{meant}")))
+        }
+    }
+}
+
+/// The one argument of a step, behind words that may be there and say nothing.
+fn argument(
+    first: &Word,
+    rest: &[Word],
+    fillers: &[&str],
+    what: &str,
+    names: &[Option<String>],
+) -> Result<u8, Wrong> {
+    let (mut last, mut rest) = (first, rest);
+    for filler in fillers {
+        match rest {
+            [word, more @ ..] if word.text == *filler => (last, rest) = (word, more),
+            _ => {}
+        }
+    }
+    match rest {
+        [] => Err((last.end(), format!("a {what} is missing behind '{}'", last.text))),
+        [_, more, ..] => Err((more.place, format!("'{}' is one word too many", more.text))),
+        [word] => named(word, what, names),
+    }
+}
+
+fn named(word: &Word, what: &str, names: &[Option<String>]) -> Result<u8, Wrong> {
+    let text = word.text;
+    if let Some(number) = names.iter().position(|name| name.as_deref() == Some(text)) {
+        return Ok(number as u8);
+    }
+    if text.chars().all(|letter| letter.is_ascii_digit()) {
+        return byte(word);
+    }
+    let known: Vec<&str> = names.iter().flatten().map(String::as_str).collect();
+    let meant = did_you_mean(text, known.iter().copied());
+    Err((
+        word.place,
+        match (meant.is_empty(), known.is_empty()) {
+            (_, true) => format!("'{text}' is not a number"),
+            (true, false) => format!("no {what} '{text}'; there are {}", known.join(", ")),
+            (false, false) => format!("no {what} '{text}'{meant}"),
+        },
+    ))
+}
+
+/// A number as a plan's bytes have it.
+fn byte(word: &Word) -> Result<u8, Wrong> {
+    let above = format!("{} is above {}, the most in a plan", word.text, u8::MAX);
+    word.text.parse().map_err(|_| (word.place, above))
+}
