@@ -1,7 +1,7 @@
 # make plan       prove the listing program and what stands below it, and run it on Q of docs/RULES.md; Q=FILE plans that query,
 #                 a text or a packed file, by the tool; ARGS=--rows says of a packed one that it has row counts
 # make explain    the same for why the plan costs what it costs, of examples/q.txt or of Q=FILE
-# make tool       build the tool fanchuki, tools/target/release/fanchuki
+# make tool       build the tool fanchuki, tools/target/release/fanchuki, and prove the programs that it runs
 # make install    put header, archive, shared object, pkg-config file, programs, tool and manual page below PREFIX (/usr/local);
 #                 DESTDIR stands before every path, LIBDIR, INCLUDEDIR and MANDIR name other folders than PREFIX's
 # make uninstall  take these away again, by the same variables
@@ -25,11 +25,11 @@ plan: kit
 	@tests/prove.sh check plan >&2
 	@target/bin/plan <examples/q.query
 else
-plan: programs tool
+plan: tool
 	@tools/target/release/fanchuki plan $(ARGS) "$$Q"
 endif
 
-explain: programs tool
+explain: tool
 	@tools/target/release/fanchuki explain $(ARGS) "$${Q:-examples/q.txt}"
 
 programs: kit
@@ -37,10 +37,10 @@ programs: kit
 	@tests/prove.sh check plan calls >&2
 
 # In this folder, wherever cargo is told to put what it builds.
-tool:
+tool: programs
 	@cargo build --quiet --release --offline --manifest-path tools/Cargo.toml --target-dir tools/target
 
-built: programs tool
+built: tool
 	@tests/prove.sh staticlib fanchuki
 	@install/shared.sh
 

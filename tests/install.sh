@@ -153,7 +153,7 @@ for program in pkg-config python3 gcc readelf nm; do
 done
 mkdir -p "$work"
 listing=$(target/bin/plan <examples/q.query)
-make -s tool
+env -u MAKEFLAGS -u MAKELEVEL make --no-print-directory -o programs tool
 install/shared.sh
 symbols
 root=$work/root
