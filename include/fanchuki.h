@@ -4,8 +4,8 @@
  * carries, a site its fixed amount and its rate for each byte that a join there reads and makes. A relation with an index
  * that was not sent is read by it and not counted; of two such operands of a join only the larger is. docs/FORMAT.md has the
  * query file (the ordinary one, which states its sizes) and the plan byte by byte. The function is proved: what it returns
- * and what it writes is its contract, for every query and every output. Link with libfanchuki.a (`rt staticlib fanchuki`;
- * x86-64).
+ * and what it writes is its contract, for every query and every output. For x86-64. Link by
+ * `pkg-config --cflags --libs fanchuki` where it is installed, or with libfanchuki.a (`rt staticlib fanchuki`).
  */
 #ifndef FANCHUKI_H
 #define FANCHUKI_H
