@@ -90,7 +90,7 @@ fn what_link_refuses() {
 
 #[test]
 fn usage() {
-    let q = example("q.txt");
+    let (q, shop) = (example("q.txt"), example("shop.txt"));
     let line = ["--line", "1", "0"];
     for (words, said) in [
         (vec![&q[..]], "no --line is named"),
@@ -113,8 +113,19 @@ fn usage() {
              did you mean 'fixed'?",
         ),
         ([&[&q[..]], &line[..], &line[..]].concat(), "the line 1 to 0 is named twice"),
+        ([&[&q[..]], &line[..], &["fixed", "-1"]].concat(), "'-1' behind 'fixed' is not a number"),
+        ([&[&q[..]], &line[..], &["rate", "+1"]].concat(), "'+1' behind 'rate' is not a number"),
+        (
+            [&[&q[..]], &line[..], &["rate", "18446744073709551616"]].concat(),
+            "'18446744073709551616' behind 'rate' is too large",
+        ),
         (vec![&q, "--line", "north", "0"], "no site 'north'"),
+        (vec![&q, "--line", "+1", "0"], "no site '+1'"),
         (vec![&q, "--lines", "1", "0", "--line", "1", "0"], "no option --lines"),
+        (
+            vec![&shop, "--line", "0", "south", "--line", "north", "1"],
+            "the line north to south is named twice",
+        ),
         (vec![&q, &q, "--line", "1", "0"], "is one word too many"),
     ] {
         let run = run(&[&["whatif"], &words[..]].concat());

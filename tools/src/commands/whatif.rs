@@ -66,7 +66,7 @@ fn split(words: &[OsString]) -> Result<(Vec<OsString>, Vec<Vec<OsString>>), Fail
     let mut asked: Vec<Vec<OsString>> = Vec::new();
     let mut in_line = false;
     for word in words {
-        let is_option = word.len() > 1 && word.to_string_lossy().starts_with('-');
+        let is_option = is_option(&word.to_string_lossy());
         if word == "--line" {
             asked.push(Vec::new());
             in_line = true;
@@ -83,13 +83,20 @@ fn split(words: &[OsString]) -> Result<(Vec<OsString>, Vec<Vec<OsString>>), Fail
     Ok((others, asked))
 }
 
+/// A number below 0 is none.
+fn is_option(word: &str) -> bool {
+    let behind = word.strip_prefix('-').and_then(|behind| behind.chars().next());
+    behind.is_some_and(|first| !first.is_ascii_digit())
+}
+
 fn read(asked: &[Vec<OsString>], names: &Names) -> Result<Vec<Change>, Failure> {
     let mut changes: Vec<Change> = Vec::new();
     for words in asked {
         let change = Change::read(words, names)?;
         let ends = |other: &Change| (other.sender, other.receiver);
         if changes.iter().any(|other| ends(other) == ends(&change)) {
-            let [sender, receiver] = [change.sender, change.receiver];
+            let [sender, receiver] =
+                [change.sender, change.receiver].map(|site| names.site(site as usize));
             return Err(Failure::Usage(format!("the line {sender} to {receiver} is named twice")));
         }
         changes.push(change);
