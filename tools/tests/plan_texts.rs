@@ -23,7 +23,7 @@ fn every_fault_of_the_text_is_told_in_one_run() {
     };
     let text = "plan 4 cost 21\nload custmers\n  laod orders\nsend to nroth, now\nsend\nsend to\n\
                 load 256\nload relation 3\njoin two\njoin 0 0\nfetch 1\nload parts\n4 x\n\
-                plan 4 cost 21 trials 3\nsend to 2\nno route trials 3\nsend site\n";
+                plan 4 cost 21 trials 3\nsend to 2\nno route trials 3\nsend site\n+1 0\n";
     let faults = plan_text::parse(text, &names).expect_err("faults");
     let told: Vec<String> = faults.iter().map(|fault| format!("{fault}\n")).collect();
     held_to("check-faults.txt", &told.concat());

@@ -16,7 +16,7 @@ pub fn step(first: &Word, rest: &[Word], names: &Names) -> Result<[u8; 2], Wrong
         "send" => Ok([2, argument(first, rest, &["to", "site"], "site", &names.sites)?]),
         "join" => Ok([3, argument(first, rest, &[], "join", &[])?]),
         "no" => Err((first.place, "where there is no route there is no plan to check".into())),
-        kind if kind.parse::<u64>().is_ok() => {
+        kind if kind.bytes().all(|byte| byte.is_ascii_digit()) => {
             Ok([byte(first)?, argument(first, rest, &[], "number", &[])?])
         }
         word => {
