@@ -44,8 +44,11 @@ fn argument(
     }
     match rest {
         [] => Err((last.end(), format!("a {what} is missing behind '{}'", last.text))),
-        [_, more, ..] => Err((more.place, format!("'{}' is one word too many", more.text))),
         [word] => named(word, what, names),
+        [word, more, ..] => {
+            named(word, what, names)?;
+            Err((more.place, format!("'{}' is one word too many", more.text)))
+        }
     }
 }
 
