@@ -52,7 +52,24 @@ impl Given {
 
 /// A packed file has bytes that no text has: control bytes other than tab and line end.
 pub fn is_packed(bytes: &[u8]) -> bool {
-    bytes.iter().any(|byte| *byte < b' ' && !b"\t\n\r\x0c".contains(byte))
+    bytes.iter().any(in_no_text)
+}
+
+fn in_no_text(byte: &u8) -> bool {
+    *byte < b' ' && !b"\t\n\r\x0c".contains(byte)
+}
+
+/// Why a file is taken for a packed one that begins as none does and may be meant as a text.
+pub fn not_a_text(bytes: &[u8]) -> Option<String> {
+    if bytes.starts_with(b"\xff\xfe") || bytes.starts_with(b"\xfe\xff") {
+        return Some("it begins like a text in UTF-16, and a text is in UTF-8".into());
+    }
+    bytes.first().filter(|byte| **byte >= b' ')?;
+    let offset = bytes.iter().position(|byte| in_no_text(byte))?;
+    let (before, rest) = bytes.split_at(offset);
+    let line = 1 + before.iter().filter(|byte| **byte == b'\n').count();
+    let byte = rest.first()?;
+    Some(format!("it is no text, since line {line} has the byte {byte:#04x}"))
 }
 
 /// All bytes of the file of that name, or of standard input.

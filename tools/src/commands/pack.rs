@@ -33,7 +33,10 @@ fn run(words: &[OsString]) -> Result<Done, Failure> {
     let bytes = given::read(file)?;
     let shown = given::shown(file);
     if given::is_packed(&bytes) {
-        return Err(Failure::Usage(format!("{shown} is packed already")));
+        return Err(match given::not_a_text(&bytes) {
+            Some(why) => Failure::Refused(format!("{shown}: {why}")),
+            None => Failure::Usage(format!("{shown} is packed already")),
+        });
     }
     let named = text::parse(&text::decoded(&bytes, &shown)?)
         .map_err(|faults| text::refused(&shown, &bytes, &faults))?;

@@ -43,7 +43,11 @@ fn run(words: &[OsString]) -> Result<Done, Failure> {
         text::draft(&text::decoded(&bytes, &shown)?)
             .map_err(|faults| text::refused(&shown, &bytes, &faults))?
     };
-    figures(&draft, &Names::default())
+    let not_a_text = given::not_a_text(&bytes);
+    figures(&draft, &Names::default()).map_err(|failure| match (failure, not_a_text) {
+        (Failure::Refused(reason), Some(why)) => Failure::Refused(format!("{reason}\n{why}")),
+        (failure, _) => failure,
+    })
 }
 
 /// The counts and the joins of a file, as far as it goes to the end of these. A count above its
