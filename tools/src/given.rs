@@ -64,8 +64,9 @@ pub fn not_a_text(bytes: &[u8]) -> Option<String> {
     if bytes.starts_with(b"\xff\xfe") || bytes.starts_with(b"\xfe\xff") {
         return Some("it begins like a text in UTF-16, and a text is in UTF-8".into());
     }
-    bytes.first().filter(|byte| **byte >= b' ')?;
-    let offset = bytes.iter().position(|byte| in_no_text(byte))?;
+    // A statement and a comment begin so.
+    bytes.first().filter(|byte| byte.is_ascii_graphic())?;
+    let offset = bytes.iter().position(in_no_text)?;
     let (before, rest) = bytes.split_at(offset);
     let line = 1 + before.iter().filter(|byte| **byte == b'\n').count();
     let byte = rest.first()?;
