@@ -121,7 +121,8 @@ fn usage() {
         ),
         (vec![&q, "--line", "north", "0"], "no site 'north'"),
         (vec![&q, "--line", "+1", "0"], "no site '+1'"),
-        (vec![&q, "--lines", "1", "0", "--line", "1", "0"], "no option --lines"),
+        (vec![&q, "--lines", "1", "0"], "no option --lines; did you mean '--line'?"),
+        (vec![&q, "--nothing", "--line", "1", "0"], "no option --nothing"),
         (
             vec![&shop, "--line", "0", "south", "--line", "north", "1"],
             "the line north to south is named twice",

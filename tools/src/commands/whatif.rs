@@ -36,8 +36,12 @@ route after the changes.
 ";
 
 fn run(words: &[OsString]) -> Result<Done, Failure> {
-    let (words, asked) = split(words)?;
-    let words = Words::take(&words, &["--rows"], &[])?;
+    let (words, asked) = split(words);
+    // None is left, but near misses of it may be.
+    let words = Words::take(&words, &["--rows"], &["--line"])?;
+    if asked.is_empty() {
+        return Err(Failure::Usage("no --line is named".into()));
+    }
     let [file] = words.just("the FILE, which stands before the first --line,")?;
     let given = Given::read(file, words.has("--rows"))?;
     let changes = read(&asked, &given.names)?;
@@ -61,7 +65,7 @@ fn run(words: &[OsString]) -> Result<Done, Failure> {
 }
 
 /// The words behind each `--line`, up to the next option, and all other words.
-fn split(words: &[OsString]) -> Result<(Vec<OsString>, Vec<Vec<OsString>>), Failure> {
+fn split(words: &[OsString]) -> (Vec<OsString>, Vec<Vec<OsString>>) {
     let mut others = Vec::new();
     let mut asked: Vec<Vec<OsString>> = Vec::new();
     let mut in_line = false;
@@ -77,10 +81,7 @@ fn split(words: &[OsString]) -> Result<(Vec<OsString>, Vec<Vec<OsString>>), Fail
             in_line = false;
         }
     }
-    if asked.is_empty() {
-        return Err(Failure::Usage("no --line is named".into()));
-    }
-    Ok((others, asked))
+    (others, asked)
 }
 
 /// A number below 0 is none.
