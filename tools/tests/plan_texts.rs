@@ -29,6 +29,17 @@ fn every_fault_of_the_text_is_told_in_one_run() {
     held_to("check-faults.txt", &told.concat());
 }
 
+#[test]
+fn long_words_are_told_by_their_front() {
+    let long = |letter: &str| letter.repeat(10_000);
+    let (a, one) = (long("a"), long("1"));
+    for text in [a.clone(), format!("load {a}"), format!("load {one}"), format!("load 0 {a}"), one]
+    {
+        let faults = plan_text::parse(&text, &Names::default()).expect_err("a fault");
+        assert!(faults.len() == 1 && faults[0].reason.len() < 200, "{}", faults[0]);
+    }
+}
+
 /// Of so many sites and relations, some without one.
 fn names(random: &mut Random, sites: usize, relations: usize) -> Names {
     let mut names = |kind: &str, count: usize| {

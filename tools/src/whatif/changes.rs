@@ -9,6 +9,7 @@ use reference::query::{Line, Query};
 
 use crate::failure::Failure;
 use crate::near::did_you_mean;
+use crate::text::is_number;
 use crate::wording;
 
 /// What stands behind one `--line`; the sites need not be listed.
@@ -98,18 +99,14 @@ fn amount(what: &str, word: Option<&impl AsRef<str>>) -> Result<u64, Failure> {
         return Err(Failure::Usage(format!("'{what}' needs a number behind it")));
     };
     number(word).ok_or_else(|| {
-        let why = if is_digits(word) { "too large" } else { "not a number" };
+        let why = if is_number(word) { "too large" } else { "not a number" };
         Failure::Usage(format!("'{word}' behind '{what}' is {why}"))
     })
 }
 
+/// Without a sign, as in a text.
 fn number(word: &str) -> Option<u64> {
-    word.parse().ok().filter(|_| is_digits(word))
-}
-
-/// Not with a sign, which the text form does not take either.
-fn is_digits(word: &str) -> bool {
-    word.bytes().all(|byte| byte.is_ascii_digit())
+    word.parse().ok().filter(|_| is_number(word))
 }
 
 fn once<T>(place: &mut Option<T>, value: T, what: &str) -> Result<(), Failure> {
