@@ -89,6 +89,15 @@ fn what_link_refuses() {
 }
 
 #[test]
+fn a_line_that_is_so_already() {
+    let found = run(&["whatif", &example("q.txt"), "--line", "1", "0", "open", "rate", "1"]).text();
+    let told = "\n\nchanged: nothing, since it is so already\nafter: the same plan, cost 21\n";
+    assert!(found.contains(told), "{found}");
+    let asked = run(&["whatif", &example("q.txt"), "--line", "1", "0"]).text();
+    assert!(!asked.contains("changed"), "{asked}");
+}
+
+#[test]
 fn usage() {
     let (q, shop) = (example("q.txt"), example("shop.txt"));
     let line = ["--line", "1", "0"];
