@@ -19,8 +19,8 @@ packs a text to the bytes of its query file
 
 usage: fanchuki pack FILE [-o OUT]
 
-  -o OUT   writes the packed file to OUT; without it, or with -, to standard output,
-           which must be no terminal
+  -o OUT   writes the packed file to OUT, which is not FILE; without it, or with -, to
+           standard output, which must be no terminal
 
 Standard error tells which load takes the file: 'a file for load', or 'a file for load from
 rows' where the text has rows and divisors in place of sizes. A FILE that is packed already is
