@@ -97,6 +97,8 @@ pub fn read(name: &OsStr) -> Result<Vec<u8>, Failure> {
 pub fn shown(name: &OsStr) -> String {
     if name == "-" {
         "standard input".into()
+    } else if name.is_empty() {
+        "''".into()
     } else {
         Path::new(name).display().to_string()
     }

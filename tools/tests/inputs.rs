@@ -29,7 +29,7 @@ fn a_file_that_is_not_there() {
     all_told("/no/such/file.txt", 2, "No such file");
     all_told("no such file.txt", 2, "No such file");
     all_told(&format!("{}/below", example("q.txt")), 2, "Not a directory");
-    is_told(&run(&["plan", ""]), 2, "No such file", "no name");
+    is_told(&run(&["plan", ""]), 2, "'': No such file", "no name");
 }
 
 /// They are taken for packed files, which may not be what was meant.
