@@ -52,7 +52,25 @@ impl Given {
 
 /// A packed file has bytes that no text has: control bytes other than tab and line end.
 pub fn is_packed(bytes: &[u8]) -> bool {
-    bytes.iter().any(|byte| *byte < b' ' && !b"\t\n\r\x0c".contains(byte))
+    bytes.iter().any(in_no_text)
+}
+
+fn in_no_text(byte: &u8) -> bool {
+    *byte < b' ' && !b"\t\n\r\x0c".contains(byte)
+}
+
+/// Why a file is taken for a packed one that begins as none does and may be meant as a text.
+pub fn not_a_text(bytes: &[u8]) -> Option<String> {
+    if bytes.starts_with(b"\xff\xfe") || bytes.starts_with(b"\xfe\xff") {
+        return Some("it begins like a text in UTF-16, and a text is in UTF-8".into());
+    }
+    // A statement and a comment begin so.
+    bytes.first().filter(|byte| byte.is_ascii_graphic())?;
+    let offset = bytes.iter().position(in_no_text)?;
+    let (before, rest) = bytes.split_at(offset);
+    let line = 1 + before.iter().filter(|byte| **byte == b'\n').count();
+    let byte = rest.first()?;
+    Some(format!("it is no text, since line {line} has the byte {byte:#04x}"))
 }
 
 /// All bytes of the file of that name, or of standard input.
@@ -79,6 +97,8 @@ pub fn read(name: &OsStr) -> Result<Vec<u8>, Failure> {
 pub fn shown(name: &OsStr) -> String {
     if name == "-" {
         "standard input".into()
+    } else if name.is_empty() {
+        "''".into()
     } else {
         Path::new(name).display().to_string()
     }

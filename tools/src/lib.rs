@@ -19,6 +19,7 @@ pub mod priced;
 pub mod proved;
 pub mod text;
 pub mod whatif;
+pub mod width;
 pub mod wording;
 pub mod words;
 pub mod written;

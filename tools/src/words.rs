@@ -3,6 +3,7 @@
 use std::ffi::{OsStr, OsString};
 
 use crate::failure::Failure;
+use crate::near::did_you_mean;
 
 /// Options, each with its value where it takes one, and the other words in order. `-` alone is
 /// one of these.
@@ -31,7 +32,8 @@ impl Words {
                 let value = words.next().ok_or_else(missing)?.clone();
                 taken.options.push((name.into_owned(), Some(value)));
             } else if name.len() > 1 && name.starts_with('-') {
-                return Err(Failure::Usage(format!("no option {name}")));
+                let meant = did_you_mean(&name, flags.iter().chain(valued).copied());
+                return Err(Failure::Usage(format!("no option {name}{meant}")));
             } else {
                 taken.plain.push(word.clone());
             }

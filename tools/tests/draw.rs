@@ -73,6 +73,12 @@ fn graphviz_takes_the_drawings() {
 }
 
 #[test]
+fn a_hyphen_is_standard_output() {
+    let q = example("q.txt");
+    assert_eq!(run(&["draw", &q, "-o", "-"]), run(&["draw", &q]));
+}
+
+#[test]
 fn bad_usage() {
     let q = example("q.txt");
     let wrong: [(&[&str], &str); 8] = [

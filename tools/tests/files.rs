@@ -137,6 +137,23 @@ fn what_cannot_be_written_is_a_fault() {
 }
 
 #[test]
+fn what_was_read_is_not_written_over() {
+    for words in [["pack", "q.txt"], ["unpack", "q.query"], ["sizes", "chain-from-rows.txt"]] {
+        let before = fs::read(example(words[1])).expect("the example");
+        let own = scratch(&format!("own-{}", words[1])).to_str().expect("UTF-8").to_string();
+        fs::write(&own, &before).expect("it is written");
+        let linked = format!("{own}-linked");
+        let _ = fs::remove_file(&linked);
+        std::os::unix::fs::symlink(&own, &linked).expect("it is linked");
+        for out in [&own, &linked] {
+            let found = run(&[words[0], &own, "-o", out]);
+            refused(&found, 2, "is FILE itself, which is not written over");
+        }
+        assert_eq!(fs::read(&own).expect("it is there"), before, "{words:?}");
+    }
+}
+
+#[test]
 fn usage() {
     let [text, file] = ["q.txt", "q.query"].map(example);
     refused(&run(&["pack", &file]), 2, "q.query is packed already");

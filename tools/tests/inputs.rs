@@ -29,7 +29,23 @@ fn a_file_that_is_not_there() {
     all_told("/no/such/file.txt", 2, "No such file");
     all_told("no such file.txt", 2, "No such file");
     all_told(&format!("{}/below", example("q.txt")), 2, "Not a directory");
-    is_told(&run(&["plan", ""]), 2, "No such file", "no name");
+    is_told(&run(&["plan", ""]), 2, "'': No such file", "no name");
+}
+
+/// They are taken for packed files, which may not be what was meant.
+#[test]
+fn a_text_with_bytes_that_no_text_has() {
+    let text = fs::read_to_string(example("q.txt")).expect("the example");
+    let escaped = text.replacen("\nrelation 0", "\n\u{1b}relation 0", 1);
+    let line = 1 + text.lines().position(|line| line.starts_with("relation 0")).expect("it");
+    let wide: Vec<u8> =
+        "\u{feff}".encode_utf16().chain(text.encode_utf16()).flat_map(u16::to_le_bytes).collect();
+    for name in ["plan", "explain", "draw", "pack", "unpack", "sizes", "room"] {
+        let said = format!("it is no text, since line {line} has the byte 0x1b\n");
+        is_told(&run_on(&[name, "-"], escaped.as_bytes()), 1, &said, name);
+        let said = "it begins like a text in UTF-16, and a text is in UTF-8\n";
+        is_told(&run_on(&[name, "-"], &wide), 1, said, name);
+    }
 }
 
 #[test]

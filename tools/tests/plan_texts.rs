@@ -23,10 +23,21 @@ fn every_fault_of_the_text_is_told_in_one_run() {
     };
     let text = "plan 4 cost 21\nload custmers\n  laod orders\nsend to nroth, now\nsend\nsend to\n\
                 load 256\nload relation 3\njoin two\njoin 0 0\nfetch 1\nload parts\n4 x\n\
-                plan 4 cost 21 trials 3\nsend to 2\nno route trials 3\nsend site\n";
+                plan 4 cost 21 trials 3\nsend to 2\nno route trials 3\nsend site\n+1 0\n";
     let faults = plan_text::parse(text, &names).expect_err("faults");
     let told: Vec<String> = faults.iter().map(|fault| format!("{fault}\n")).collect();
     held_to("check-faults.txt", &told.concat());
+}
+
+#[test]
+fn long_words_are_told_by_their_front() {
+    let long = |letter: &str| letter.repeat(10_000);
+    let (a, one) = (long("a"), long("1"));
+    for text in [a.clone(), format!("load {a}"), format!("load {one}"), format!("load 0 {a}"), one]
+    {
+        let faults = plan_text::parse(&text, &Names::default()).expect_err("a fault");
+        assert!(faults.len() == 1 && faults[0].reason.len() < 200, "{}", faults[0]);
+    }
 }
 
 /// Of so many sites and relations, some without one.

@@ -97,6 +97,11 @@ fn refusals_of_a_packed_file() {
     assert_eq!(changed(&|file| file.extend([1; 70_000])), figures(15, 90, 120));
     let none = [&[0, 1, 0, 0, 0][..], &[0; 20]].concat();
     assert_eq!(room(&none), refused("refused 2: 0 sites: must be 1 to 8"));
+    // Behind a count that is too large it can't be told where the joins stand.
+    assert_eq!(changed(&|file| file[0] = 9), refused("refused 2: 9 sites: must be 1 to 8"));
+    assert_eq!(changed(&|file| file[0] = 200), refused("refused 2: 200 sites: must be 1 to 8"));
+    let many = "refused 2: 200 relations: must be 1 to 9";
+    assert_eq!(changed(&|file| file[55] = 200), refused(many));
     let no_relation = [&[1][..], &[0; 20]].concat();
     assert_eq!(room(&no_relation), refused("refused 2: 0 relations: must be 1 to 9"));
 }

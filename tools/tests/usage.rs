@@ -19,11 +19,31 @@ fn is_usage(run: &Run, said: &str, what: &str) {
 #[test]
 fn a_subcommand_is_one_of_the_nine() {
     is_usage(&run(&[]), "no subcommand\nusage: fanchuki ", "alone");
-    for word in ["pln", "", "PLAN", "--plan", "-", "plan "] {
+    for word in ["xyz", "", "plans-of-all", "-", "p"] {
         is_usage(&run(&[word]), &format!("no subcommand '{word}'\nusage: fanchuki "), word);
         is_usage(&run(&["help", word]), &format!("no subcommand '{word}'"), word);
     }
     is_usage(&run(&["help", "plan", "more"]), "'more' is one word too many", "help plan more");
+}
+
+#[test]
+fn a_near_miss_suggests_the_right_word() {
+    for (word, meant) in [("pln", "plan"), ("PLAN", "plan"), ("expalin", "explain")] {
+        let said = format!("no subcommand '{word}'; did you mean '{meant}'?\nusage: fanchuki ");
+        is_usage(&run(&[word]), &said, word);
+    }
+    let q = example("q.txt");
+    let said = "no option --row; did you mean '--rows'?\n";
+    is_usage(&run(&["plan", &q, "--row"]), said, "--row");
+    is_usage(&run(&["room", &q, "--rows"]), "no option --rows\n", "room has no --rows");
+}
+
+#[test]
+fn help_of_help_is_the_overview() {
+    let overview = run(&["help"]);
+    for words in [["help", "help"], ["help", "--help"], ["--help", "--help"]] {
+        assert_eq!(run(&words), overview, "{words:?}");
+    }
 }
 
 #[test]

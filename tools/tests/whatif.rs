@@ -89,8 +89,17 @@ fn what_link_refuses() {
 }
 
 #[test]
+fn a_line_that_is_so_already() {
+    let found = run(&["whatif", &example("q.txt"), "--line", "1", "0", "open", "rate", "1"]).text();
+    let told = "\n\nchanged: nothing, since it is so already\nafter: the same plan, cost 21\n";
+    assert!(found.contains(told), "{found}");
+    let asked = run(&["whatif", &example("q.txt"), "--line", "1", "0"]).text();
+    assert!(!asked.contains("changed"), "{asked}");
+}
+
+#[test]
 fn usage() {
-    let q = example("q.txt");
+    let (q, shop) = (example("q.txt"), example("shop.txt"));
     let line = ["--line", "1", "0"];
     for (words, said) in [
         (vec![&q[..]], "no --line is named"),
@@ -113,8 +122,20 @@ fn usage() {
              did you mean 'fixed'?",
         ),
         ([&[&q[..]], &line[..], &line[..]].concat(), "the line 1 to 0 is named twice"),
+        ([&[&q[..]], &line[..], &["fixed", "-1"]].concat(), "'-1' behind 'fixed' is not a number"),
+        ([&[&q[..]], &line[..], &["rate", "+1"]].concat(), "'+1' behind 'rate' is not a number"),
+        (
+            [&[&q[..]], &line[..], &["rate", "18446744073709551616"]].concat(),
+            "'18446744073709551616' behind 'rate' is too large",
+        ),
         (vec![&q, "--line", "north", "0"], "no site 'north'"),
-        (vec![&q, "--lines", "1", "0", "--line", "1", "0"], "no option --lines"),
+        (vec![&q, "--line", "+1", "0"], "no site '+1'"),
+        (vec![&q, "--lines", "1", "0"], "no option --lines; did you mean '--line'?"),
+        (vec![&q, "--nothing", "--line", "1", "0"], "no option --nothing"),
+        (
+            vec![&shop, "--line", "0", "south", "--line", "north", "1"],
+            "the line north to south is named twice",
+        ),
         (vec![&q, &q, "--line", "1", "0"], "is one word too many"),
     ] {
         let run = run(&[&["whatif"], &words[..]].concat());

@@ -57,6 +57,9 @@ impl Walk<'_> {
         let Some((&count, _)) = self.plan.split_first() else {
             return "the plan is empty".to_string();
         };
+        if self.plan.len() == 1 && count == 0 {
+            return format!("the plan has no steps: must be 1 to {MOST_STEPS}");
+        }
         if !(1..=MOST_STEPS).contains(&usize::from(count)) {
             return format!("its count of steps is {count}: must be 1 to {MOST_STEPS}");
         }

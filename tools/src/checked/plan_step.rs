@@ -4,7 +4,7 @@ use reference::names::Names;
 
 use crate::near::did_you_mean;
 use crate::text::scan::Word;
-use crate::text::Place;
+use crate::text::{is_number, quoted, Place};
 
 /// A reason, and where.
 pub type Wrong = (Place, String);
@@ -16,13 +16,11 @@ pub fn step(first: &Word, rest: &[Word], names: &Names) -> Result<[u8; 2], Wrong
         "send" => Ok([2, argument(first, rest, &["to", "site"], "site", &names.sites)?]),
         "join" => Ok([3, argument(first, rest, &[], "join", &[])?]),
         "no" => Err((first.place, "where there is no route there is no plan to check".into())),
-        kind if kind.parse::<u64>().is_ok() => {
-            Ok([byte(first)?, argument(first, rest, &[], "number", &[])?])
-        }
+        kind if is_number(kind) => Ok([byte(first)?, argument(first, rest, &[], "number", &[])?]),
         word => {
             let meant = did_you_mean(word, ["load", "send", "join"]);
             let expected = "one is 'load RELATION', 'send SITE' or 'join NUMBER'";
-            Err((first.place, format!("'{word}' is no step: {expected}{meant}")))
+            Err((first.place, format!("{} is no step: {expected}{meant}", quoted(word))))
         }
     }
 }
@@ -43,9 +41,12 @@ fn argument(
         }
     }
     match rest {
-        [] => Err((last.end(), format!("a {what} is missing behind '{}'", last.text))),
-        [_, more, ..] => Err((more.place, format!("'{}' is one word too many", more.text))),
+        [] => Err((last.end(), format!("a {what} is missing behind {}", quoted(last.text)))),
         [word] => named(word, what, names),
+        [word, more, ..] => {
+            named(word, what, names)?;
+            Err((more.place, format!("{} is one word too many", quoted(more.text))))
+        }
     }
 }
 
@@ -54,23 +55,24 @@ fn named(word: &Word, what: &str, names: &[Option<String>]) -> Result<u8, Wrong>
     if let Some(number) = names.iter().position(|name| name.as_deref() == Some(text)) {
         return Ok(number as u8);
     }
-    if text.chars().all(|letter| letter.is_ascii_digit()) {
+    if is_number(text) {
         return byte(word);
     }
     let known: Vec<&str> = names.iter().flatten().map(String::as_str).collect();
     let meant = did_you_mean(text, known.iter().copied());
+    let text = quoted(text);
     Err((
         word.place,
         match (meant.is_empty(), known.is_empty()) {
-            (_, true) => format!("'{text}' is not a number"),
-            (true, false) => format!("no {what} '{text}'; there are {}", known.join(", ")),
-            (false, false) => format!("no {what} '{text}'{meant}"),
+            (_, true) => format!("{text} is not a number"),
+            (true, false) => format!("no {what} {text}; there are {}", known.join(", ")),
+            (false, false) => format!("no {what} {text}{meant}"),
         },
     ))
 }
 
 /// A number as a plan's bytes have it.
 fn byte(word: &Word) -> Result<u8, Wrong> {
-    let above = format!("{} is above {}, the most in a plan", word.text, u8::MAX);
-    word.text.parse().map_err(|_| (word.place, above))
+    let above = || format!("{} is above {}, the most in a plan", quoted(word.text), u8::MAX);
+    word.text.parse().map_err(|_| (word.place, above()))
 }

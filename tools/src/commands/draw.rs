@@ -23,7 +23,8 @@ usage: fanchuki draw FILE [--rows] [-o OUT]
 
   --rows   a packed FILE has row counts and divisors in place of sizes
   -o OUT   OUT ends in .dot, for Graphviz's language, or in .svg, for a picture of it, which
-           Graphviz's own program 'dot' makes; without -o the former goes to standard output
+           Graphviz's own program 'dot' makes; without it, or with -, the former goes to
+           standard output
 
 Relations stand on top and the result at the foot. A thick arrow is a send with its charge and
 parcels; along a thin one nothing is sent, and along a dashed one the index is followed. Where
@@ -40,8 +41,8 @@ fn run(words: &[OsString]) -> Result<Done, Failure> {
     let words = Words::take(words, &["--rows"], &["-o"])?;
     let [file] = words.just("the FILE")?;
     let out = match words.value("-o")? {
-        Some(out) => Some((kind(out)?, out)),
-        None => None,
+        Some(out) if out != "-" => Some((kind(out)?, out)),
+        _ => None,
     };
     let dot = dot(Given::read(file, words.has("--rows"))?)?;
     match out {

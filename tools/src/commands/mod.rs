@@ -14,6 +14,7 @@ use std::ffi::{OsStr, OsString};
 
 use crate::done::Done;
 use crate::failure::Failure;
+use crate::near::did_you_mean;
 use crate::words::too_many;
 
 pub struct Command {
@@ -70,7 +71,8 @@ fn find(name: &OsStr) -> Result<&'static Command, Failure> {
     let found = ALL.iter().find(|command| command.name == name);
     found.ok_or_else(|| {
         let name = name.to_string_lossy();
-        Failure::Usage(format!("no subcommand '{name}'\n{}", overview().trim_end()))
+        let meant = did_you_mean(&name, ALL.iter().map(|command| command.name));
+        Failure::Usage(format!("no subcommand '{name}'{meant}\n{}", overview().trim_end()))
     })
 }
 
@@ -78,6 +80,7 @@ fn find(name: &OsStr) -> Result<&'static Command, Failure> {
 fn help(words: &[OsString]) -> Result<Done, Failure> {
     match words {
         [] => Ok(Done::printing(overview())),
+        [name] if name == "help" || name == "--help" => Ok(Done::printing(overview())),
         [name] => find(name).map(told),
         [_, more, ..] => Err(too_many(more)),
     }

@@ -19,8 +19,8 @@ packs a text to the bytes of its query file
 
 usage: fanchuki pack FILE [-o OUT]
 
-  -o OUT   writes the packed file to OUT; without it, or with -, to standard output,
-           which must be no terminal
+  -o OUT   writes the packed file to OUT, which is not FILE; without it, or with -, to
+           standard output, which must be no terminal
 
 Standard error tells which load takes the file: 'a file for load', or 'a file for load from
 rows' where the text has rows and divisors in place of sizes. A FILE that is packed already is
@@ -33,7 +33,10 @@ fn run(words: &[OsString]) -> Result<Done, Failure> {
     let bytes = given::read(file)?;
     let shown = given::shown(file);
     if given::is_packed(&bytes) {
-        return Err(Failure::Usage(format!("{shown} is packed already")));
+        return Err(match given::not_a_text(&bytes) {
+            Some(why) => Failure::Refused(format!("{shown}: {why}")),
+            None => Failure::Usage(format!("{shown} is packed already")),
+        });
     }
     let named = text::parse(&text::decoded(&bytes, &shown)?)
         .map_err(|faults| text::refused(&shown, &bytes, &faults))?;

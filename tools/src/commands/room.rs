@@ -43,14 +43,28 @@ fn run(words: &[OsString]) -> Result<Done, Failure> {
         text::draft(&text::decoded(&bytes, &shown)?)
             .map_err(|faults| text::refused(&shown, &bytes, &faults))?
     };
-    figures(&draft, &Names::default())
+    let not_a_text = given::not_a_text(&bytes);
+    figures(&draft, &Names::default()).map_err(|failure| match (failure, not_a_text) {
+        (Failure::Refused(reason), Some(why)) => Failure::Refused(format!("{reason}\n{why}")),
+        (failure, _) => failure,
+    })
 }
 
-/// The counts and the joins of a file, as far as it goes to the end of these.
+/// The counts and the joins of a file, as far as it goes to the end of these. A count above its
+/// limit is enough to be refused: what stands behind it can't be told.
 fn packed(file: &[u8]) -> Option<Draft> {
     let sites = *file.first()?;
+    let refused = |relations: u8| {
+        Some(Draft { relations: relations.into(), sites: sites.into(), joins: Vec::new() })
+    };
+    if usize::from(sites) > MOST_SITES {
+        return refused(1);
+    }
     let relations_at = 1 + 9 * usize::from(sites);
     let relations = *file.get(relations_at)?;
+    if usize::from(relations) > MOST_RELATIONS {
+        return refused(relations);
+    }
     let joins_at = relations_at + 1 + 2 * usize::from(relations);
     let joins = usize::from(*file.get(joins_at)?);
     let joins = file.get(joins_at + 1..joins_at + 1 + 2 * joins)?.to_vec();

@@ -20,7 +20,7 @@ prints a query with rows as a text with the sizes worked out
 usage: fanchuki sizes FILE [--rows] [-o OUT]
 
   --rows   a packed FILE has row counts and divisors in place of sizes
-  -o OUT   writes the text to OUT; without it, or with -, to standard output
+  -o OUT   writes the text to OUT, which is not FILE; without it, or with -, to standard output
 
 Names are kept, comments are not. A query that has its sizes already is refused.
 ";

@@ -22,7 +22,7 @@ unpacks a query file to a text that packs to the same bytes
 usage: fanchuki unpack FILE [--rows] [-o OUT]
 
   --rows   FILE has row counts and divisors in place of sizes
-  -o OUT   writes the text to OUT; without it, or with -, to standard output
+  -o OUT   writes the text to OUT, which is not FILE; without it, or with -, to standard output
 
 A file that is refused is told with the number of the refusal and the field that it is for: its
 section, its offset in bytes from 0, its value and what must stand there. A FILE that is a text

@@ -36,8 +36,12 @@ route after the changes.
 ";
 
 fn run(words: &[OsString]) -> Result<Done, Failure> {
-    let (words, asked) = split(words)?;
-    let words = Words::take(&words, &["--rows"], &[])?;
+    let (words, asked) = split(words);
+    // None is left, but near misses of it may be.
+    let words = Words::take(&words, &["--rows"], &["--line"])?;
+    if asked.is_empty() {
+        return Err(Failure::Usage("no --line is named".into()));
+    }
     let [file] = words.just("the FILE, which stands before the first --line,")?;
     let given = Given::read(file, words.has("--rows"))?;
     let changes = read(&asked, &given.names)?;
@@ -61,12 +65,12 @@ fn run(words: &[OsString]) -> Result<Done, Failure> {
 }
 
 /// The words behind each `--line`, up to the next option, and all other words.
-fn split(words: &[OsString]) -> Result<(Vec<OsString>, Vec<Vec<OsString>>), Failure> {
+fn split(words: &[OsString]) -> (Vec<OsString>, Vec<Vec<OsString>>) {
     let mut others = Vec::new();
     let mut asked: Vec<Vec<OsString>> = Vec::new();
     let mut in_line = false;
     for word in words {
-        let is_option = word.len() > 1 && word.to_string_lossy().starts_with('-');
+        let is_option = is_option(&word.to_string_lossy());
         if word == "--line" {
             asked.push(Vec::new());
             in_line = true;
@@ -77,10 +81,13 @@ fn split(words: &[OsString]) -> Result<(Vec<OsString>, Vec<Vec<OsString>>), Fail
             in_line = false;
         }
     }
-    if asked.is_empty() {
-        return Err(Failure::Usage("no --line is named".into()));
-    }
-    Ok((others, asked))
+    (others, asked)
+}
+
+/// A number below 0 is none.
+fn is_option(word: &str) -> bool {
+    let behind = word.strip_prefix('-').and_then(|behind| behind.chars().next());
+    behind.is_some_and(|first| !first.is_ascii_digit())
 }
 
 fn read(asked: &[Vec<OsString>], names: &Names) -> Result<Vec<Change>, Failure> {
@@ -89,7 +96,8 @@ fn read(asked: &[Vec<OsString>], names: &Names) -> Result<Vec<Change>, Failure> 
         let change = Change::read(words, names)?;
         let ends = |other: &Change| (other.sender, other.receiver);
         if changes.iter().any(|other| ends(other) == ends(&change)) {
-            let [sender, receiver] = [change.sender, change.receiver];
+            let [sender, receiver] =
+                [change.sender, change.receiver].map(|site| names.site(site as usize));
             return Err(Failure::Usage(format!("the line {sender} to {receiver} is named twice")));
         }
         changes.push(change);

@@ -2,6 +2,8 @@
 
 use std::iter;
 
+use crate::width;
+
 #[derive(Clone, Copy, Debug, PartialEq, Eq)]
 pub enum Side {
     Left,
@@ -30,7 +32,7 @@ impl Table {
         let rows: Vec<&Vec<String>> = iter::once(&heads).chain(&self.rows).collect();
         let width = |column: usize| {
             let lines = rows.iter().filter_map(|row| row.get(column)).flat_map(|cell| cell.lines());
-            lines.map(|line| line.chars().count()).max().unwrap_or(0)
+            lines.map(width::width).max().unwrap_or(0)
         };
         let widths: Vec<usize> = (0..self.heads.len()).map(width).collect();
         rows.into_iter().map(|row| self.row(row, &widths)).collect()
@@ -42,9 +44,10 @@ impl Table {
             let columns = cells.iter().zip(&self.heads).zip(widths);
             let padded = columns.map(|((cell, &(_, side)), &width)| {
                 let text = cell.lines().nth(number).unwrap_or_default();
+                let blanks = " ".repeat(width - width::width(text));
                 match side {
-                    Side::Left => format!("{text:width$}"),
-                    Side::Right => format!("{text:>width$}"),
+                    Side::Left => text.to_string() + &blanks,
+                    Side::Right => blanks + text,
                 }
             });
             let line = padded.collect::<Vec<_>>().join(GAP);
@@ -54,12 +57,12 @@ impl Table {
     }
 }
 
-/// The text in lines of so many characters, broken at blanks only.
-pub fn wrapped(text: &str, width: usize) -> String {
+/// The text in lines of so many columns, broken at blanks only.
+pub fn wrapped(text: &str, columns: usize) -> String {
     let mut lines: Vec<String> = Vec::new();
     for word in text.split(' ') {
         match lines.last_mut() {
-            Some(line) if line.chars().count() + 1 + word.chars().count() <= width => {
+            Some(line) if width::width(line) + 1 + width::width(word) <= columns => {
                 line.push(' ');
                 line.push_str(word);
             }
@@ -67,4 +70,17 @@ pub fn wrapped(text: &str, width: usize) -> String {
         }
     }
     lines.join("\n")
+}
+
+#[cfg(test)]
+mod tests {
+    use super::{Side, Table};
+
+    #[test]
+    fn wide_letters_keep_the_columns() {
+        let mut table = Table::new(&[("site", Side::Left), ("sum", Side::Right)]);
+        table.add(["東京".into(), "1".into()]);
+        table.add(["north".into(), "22".into()]);
+        assert_eq!(table.print(), "site   sum\n東京     1\nnorth   22\n");
+    }
 }

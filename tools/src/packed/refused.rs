@@ -7,6 +7,7 @@ use reference::decode;
 use reference::refusal::Refusal;
 use reference::stated::Form;
 
+use crate::given;
 use crate::packed::walk;
 
 #[derive(Clone, Debug, PartialEq, Eq)]
@@ -28,7 +29,8 @@ impl RefusedFile {
             Err(found) => format!("the tool's words are for another refusal, {found}"),
             Ok(()) => "the tool finds nothing wrong with it".to_string(),
         };
-        RefusedFile::new(refusal, reason + other_form(file, form))
+        let meant = given::not_a_text(file).map_or_else(String::new, |why| format!("\n{why}"));
+        RefusedFile::new(refusal, reason + other_form(file, form) + &meant)
     }
 }
 

@@ -28,7 +28,7 @@ mod whole;
 
 pub use fault::{Fault, Faults, Place};
 pub use shown::{decoded, refused};
-pub use vocabulary::is_name;
+pub use vocabulary::{is_name, is_number, quoted};
 
 use reference::names::Names;
 use reference::room::Draft;

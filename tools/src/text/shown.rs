@@ -5,6 +5,7 @@ use std::fmt::Write;
 use crate::failure::Failure;
 use crate::text::fault::{Fault, Place};
 use crate::text::scan;
+use crate::width::is_wide;
 
 /// More faults are counted only.
 const MOST_SHOWN: usize = 50;
@@ -65,9 +66,13 @@ fn pointed(shown: &mut String, line: &str, column: usize) {
     let start = if from > 0 { ".." } else { "" };
     let end = if from + WIDTH < characters.len() { ".." } else { "" };
     put(shown, format_args!("  {start}{window}{end}"));
-    let keep_tab = |&character: &char| if character == '\t' { '\t' } else { ' ' };
-    let before: String =
-        characters.iter().skip(from).take(column - 1 - from).map(keep_tab).collect();
+    // A wide character's blank is as wide.
+    let blank = |&character: &char| match character {
+        '\t' => '\t',
+        wide if is_wide(wide) => '\u{3000}',
+        _ => ' ',
+    };
+    let before: String = characters.iter().skip(from).take(column - 1 - from).map(blank).collect();
     put(shown, format_args!("  {}{before}^", " ".repeat(start.len())));
 }
 

@@ -9,6 +9,7 @@ use reference::query::{Line, Query};
 
 use crate::failure::Failure;
 use crate::near::did_you_mean;
+use crate::text::is_number;
 use crate::wording;
 
 /// What stands behind one `--line`; the sites need not be listed.
@@ -87,7 +88,7 @@ fn site(word: &str, names: &Names) -> Result<u64, Failure> {
     if let Some(number) = names.sites.iter().position(|name| name.as_deref() == Some(word)) {
         return Ok(number as u64);
     }
-    word.parse().map_err(|_| {
+    number(word).ok_or_else(|| {
         let meant = did_you_mean(word, names.sites.iter().flatten().map(String::as_str));
         Failure::Usage(format!("no site '{word}'{meant}"))
     })
@@ -97,8 +98,15 @@ fn amount(what: &str, word: Option<&impl AsRef<str>>) -> Result<u64, Failure> {
     let Some(word) = word.map(AsRef::as_ref) else {
         return Err(Failure::Usage(format!("'{what}' needs a number behind it")));
     };
-    let not_one = |_| Failure::Usage(format!("'{word}' behind '{what}' is not a number"));
-    word.parse().map_err(not_one)
+    number(word).ok_or_else(|| {
+        let why = if is_number(word) { "too large" } else { "not a number" };
+        Failure::Usage(format!("'{word}' behind '{what}' is {why}"))
+    })
+}
+
+/// Without a sign, as in a text.
+fn number(word: &str) -> Option<u64> {
+    word.parse().ok().filter(|_| is_number(word))
 }
 
 fn once<T>(place: &mut Option<T>, value: T, what: &str) -> Result<(), Failure> {

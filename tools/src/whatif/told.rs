@@ -31,6 +31,9 @@ pub fn after(
             text += &format!("changed: {line}, {}; was {was}\n", lines::described(now));
         }
     }
+    if text == "\n" {
+        text += "changed: nothing, since it is so already\n";
+    }
     text += &match (before, after) {
         (Solved::Plan { plan: one, .. }, Solved::Plan { plan: other, cost, .. })
             if one == other =>
