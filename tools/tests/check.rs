@@ -1,17 +1,16 @@
 //! `fanchuki check`: the verdict is the proved one, and every refusal has its words.
 
 mod common;
-mod proved;
 
 use std::fs;
 
-use common::{example, held_to, run, run_on};
+use common::proved;
+use common::{example, held_to, run, run_on, stored};
 use fanchuki::checked::plan_text::{self, PlanText};
 use fanchuki::checked::verdict::verdict;
 use reference::generate::plans;
 use reference::generate::queries::{self, Extent};
 use reference::method::Method;
-use reference::names::Names;
 use reference::pinned;
 use reference::random::Random;
 use reference::solve;
@@ -79,11 +78,6 @@ fn a_chain_with_names_is_stored() {
     let mut query = pinned::chain_of_five();
     query.sites[1].may_join = false;
     query.line_mut(0, 2).open = false;
-    let some = |name: &str| Some(name.to_string());
-    let names = Names {
-        sites: vec![some("north"), some("south"), some("east")],
-        relations: vec![some("customers"), some("orders"), some("items")],
-    };
     let texts: [&str; 11] = [
         "load customers\nsend to south\nload orders\njoin 0\n",
         "load customers\nsend east\n",
@@ -97,7 +91,9 @@ fn a_chain_with_names_is_stored() {
         "load orders\nload customers\nload items\n",
         "load items\njoin 1\n",
     ];
-    let mut loaded = proved::load(proved::start(), query, names);
+    let mut loaded = proved::running();
+    proved::put(&mut loaded, query.into());
+    loaded.names = proved::names(&["north", "south", "east"], &["customers", "orders", "items"]);
     let mut transcript = String::new();
     for text in texts {
         let plan = plan_text::parse(text, &loaded.names).expect("a plan");
@@ -149,27 +145,26 @@ fn usage() {
     }
     assert_eq!(run(&["check", &q, "/no/such/plan"]).code, 2);
     let query = fs::read(&q).expect("the example");
-    let plan = example("../tools/tests/stored/plan-q.txt");
+    let plan = stored("plan-q.txt");
     assert_eq!(run_on(&["check", "-", &plan], &query).code, 0);
 }
 
 #[test]
 fn thousands_of_plans_have_one_verdict_and_words() {
-    let mut calls = proved::start();
+    let mut loaded = proved::running();
     let mut met = [0; 13];
     for case in 0..400 {
         let mut random = Random::for_case(73, case);
         let extent = if case % 2 == 0 { Extent::full() } else { Extent::small() };
         let query = queries::query(&mut random, &extent);
         let cheapest = solve::solve(&query, Method::Rules).map(|plan| plan.steps);
-        let mut loaded = proved::load(calls, query, Names::default());
+        proved::put(&mut loaded, query.into());
         for _ in 0..20 {
             let plan = plans::to_check(&mut random, &loaded.query, cheapest.as_deref());
             let plan = PlanText { plan, lines: Vec::new() };
             let done = verdict(&mut loaded, &plan).expect("a verdict");
             met[judged(&String::from_utf8(done.printed).expect("UTF-8"), done.code)] += 1;
         }
-        calls = loaded.calls;
     }
     for number in [0, 7, 8, 9, 10, 11, 12] {
         assert!(met[number] > 50, "{number}: {met:?}");

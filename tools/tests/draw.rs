@@ -1,11 +1,11 @@
 //! `fanchuki draw`, over the examples and with names.
 
 mod common;
-mod named;
 
 use std::io::Write;
 use std::process::{Command, Stdio};
 
+use common::proved;
 use common::{example, held_to, run};
 use fanchuki::cheapest::{self, Cheapest};
 use fanchuki::drawn;
@@ -27,7 +27,7 @@ fn every_example_is_drawn() {
 }
 
 fn with_names(relations: [&str; 4], sites: [&str; 3]) -> String {
-    let (mut loaded, _) = named::loaded(relations, sites);
+    let (mut loaded, _) = proved::four_tables(relations, sites);
     let Ok(Cheapest::Plan(plan)) = cheapest::find(&mut loaded) else { panic!("no plan") };
     drawn::dot(&loaded.query, &loaded.names, &plan).expect("a tree")
 }

@@ -1,10 +1,10 @@
 //! `fanchuki explain`, over the examples, small queries and with names.
 
 mod common;
-mod named;
 
 use std::time::{Duration, Instant};
 
+use common::proved;
 use common::{example, held_to, run, run_on, Run};
 use fanchuki::cheapest::{self, Cheapest};
 use fanchuki::explained::Explained;
@@ -66,7 +66,7 @@ fn example_text(name: &str) -> String {
 }
 
 fn with_names(relations: [&str; 4], sites: [&str; 3]) -> String {
-    let (mut loaded, given) = named::loaded(relations, sites);
+    let (mut loaded, given) = proved::four_tables(relations, sites);
     let Ok(Cheapest::Plan(plan)) = cheapest::find(&mut loaded) else { panic!("no plan") };
     let explained = Explained::find(&mut loaded, &given.file, given.form, plan);
     let explained = explained.expect("an explanation");

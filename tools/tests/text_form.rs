@@ -1,10 +1,10 @@
 //! The text form of a query: the examples, what it takes, and what it refuses of Q.
 
 mod common;
-mod texts;
 
 use std::fs;
 
+use common::texts::{taken, told, NAMED};
 use fanchuki::text::{decoded, parse};
 use reference::encode::encode;
 use reference::limits::LONGEST_FILE;
@@ -15,7 +15,6 @@ use reference::query::Query;
 use reference::solve;
 use reference::text::print;
 use reference::units::Charge;
-use texts::{taken, told, NAMED};
 
 fn example(name: &str) -> Query {
     let path = |ending| common::example(&format!("{name}.{ending}"));

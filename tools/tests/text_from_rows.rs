@@ -1,17 +1,16 @@
 //! The text form of a query with rows and divisors: there and back, and what is refused.
 
 mod common;
-mod texts;
 
 use std::fs;
 
+use common::texts::{by_rows, taken, told};
 use fanchuki::text::parse;
 use reference::encode::encode_stated;
 use reference::names::Names;
 use reference::pinned_rows;
 use reference::stated::Form;
 use reference::text::print;
-use texts::{by_rows, taken, told};
 
 const Q: &str = "sites 0 to 2 may join, fixed 2, rate 1
 relation 0 at site 0

@@ -1,12 +1,11 @@
 //! Sites and relations by their names.
 
 mod common;
-mod texts;
 
 use std::fs;
 
+use common::texts::{taken, NAMED};
 use common::{run, run_on};
-use texts::{taken, NAMED};
 
 /// A site or a relation with a name can be called by its number, and 'site' may be left out.
 #[test]

@@ -1,9 +1,10 @@
 //! Pack, unpack, pack: a query's text gives its file, and the file's text the same file again.
 
-mod texts;
+mod common;
 
 use std::time::{Duration, Instant};
 
+use common::texts;
 use fanchuki::text::parse;
 use reference::decode::decode;
 use reference::encode::encode_stated;

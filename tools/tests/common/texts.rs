@@ -1,10 +1,5 @@
 //! Texts and names for the tests of the text form.
 
-// Each test file is a program of its own and takes what it needs.
-#![allow(dead_code)]
-
-pub mod damage;
-
 use fanchuki::text::{self, is_name, Fault};
 use reference::names::Names;
 use reference::query::Query;

@@ -6,7 +6,7 @@ use reference::random::Random;
 use reference::stated::Form;
 use reference::text::print;
 
-use super::names;
+use super::texts::names;
 
 /// Words of the statements and others that stand where they should not.
 pub const ODD: [&str; 44] = [
