@@ -5,8 +5,7 @@ mod common;
 use std::io::Write;
 use std::process::{Command, Stdio};
 
-use common::proved;
-use common::{example, held_to, run};
+use common::{example, held_to, proved, run, subcommands};
 use fanchuki::cheapest::{self, Cheapest};
 use fanchuki::drawn;
 
@@ -73,25 +72,10 @@ fn graphviz_takes_the_drawings() {
 }
 
 #[test]
-fn bad_usage() {
-    let q = example("q.txt");
-    let wrong: [(&[&str], &str); 8] = [
-        (&["draw"], "the FILE is missing"),
-        (&["draw", &q, "plan.svg"], "'plan.svg' is one word too many"),
-        (&["draw", &q, "-o"], "-o needs a value"),
-        (&["draw", &q, "-o", "a.dot", "-o", "b.dot"], "-o is there twice"),
-        (&["draw", &q, "-o", "plan.png"], "'plan.png' ends neither in .dot nor in .svg"),
-        (&["draw", &q, "-o", "plan"], "'plan' ends neither in .dot nor in .svg"),
-        (&["draw", &q, "-o", ".svg"], "'.svg' ends neither in .dot nor in .svg"),
-        (&["draw", "no-such-file"], "no-such-file: "),
-    ];
-    for (words, reason) in wrong {
-        let ended = run(words);
-        assert_eq!((ended.code, ended.text()), (2, String::new()), "{words:?}");
-        assert!(ended.said.starts_with(&format!("fanchuki: {reason}")), "{}", ended.said);
-        assert!(ended.said.ends_with("'fanchuki draw --help' tells more\n"), "{}", ended.said);
+fn the_file_is_of_a_kind_that_is_drawn() {
+    for out in ["plan.png", "plan", ".svg"] {
+        let ended = run(&["draw", &example("q.txt"), "-o", out]);
+        let said = format!("'{out}' ends neither in .dot nor in .svg");
+        subcommands::is_told(&ended, 2, &said, out);
     }
-    let help = run(&["draw", "--help"]);
-    assert_eq!(help.code, 0);
-    assert!(help.text().contains("usage: fanchuki draw FILE [--rows] [-o OUT]"));
 }

@@ -4,8 +4,7 @@ mod common;
 
 use std::time::{Duration, Instant};
 
-use common::proved;
-use common::{example, held_to, run, run_on, Run};
+use common::{example, held_to, proved, run, run_on, Run};
 use fanchuki::cheapest::{self, Cheapest};
 use fanchuki::explained::Explained;
 

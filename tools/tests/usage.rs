@@ -42,20 +42,19 @@ fn unknown_options_are_told() {
 fn missing_words_are_told() {
     for (name, _) in SUBCOMMANDS {
         is_usage(&run(&words(name, &[])), "missing", name);
-        is_usage(&run(&[name]), "", name);
-        is_usage(&run(&[name, "--"]), "", name);
+        let said = if name == "whatif" { "no --line is named" } else { "the FILE " };
+        is_usage(&run(&[name]), said, name);
+        is_usage(&run(&[name, "--"]), said, name);
     }
     let q = example("q.txt");
-    for words in [&["draw", &q, "-o"][..], &["whatif", &q], &["whatif", &q, "--line"]] {
-        is_usage(&run(words), words.get(2).unwrap_or(&""), &format!("{words:?}"));
-    }
+    is_usage(&run(&["draw", &q, "-o"]), "-o needs a value", "draw -o");
 }
 
 #[test]
 fn words_too_many_are_told() {
     for (name, _) in SUBCOMMANDS {
         let q = example("q.txt");
-        is_usage(&run(&words(name, &[&q, &q, &q])), "q.txt", name);
+        is_usage(&run(&words(name, &[&q, &q, &q])), "q.txt' is one word too many", name);
     }
 }
 
@@ -78,7 +77,7 @@ fn an_option_is_there_once() {
 
 #[test]
 fn rows_are_not_sizes() {
-    for name in ["plan", "explain", "draw", "check", "whatif"] {
+    for name in ["plan", "explain", "draw", "check", "whatif", "sizes"] {
         let file = example("q.txt");
         is_usage(&run(&words(name, &["--rows", &file])), NOT_PACKED, name);
         let words = words(name, &["--rows", "-"]);
