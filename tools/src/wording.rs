@@ -5,6 +5,9 @@ use reference::rules::Held;
 use reference::sets::{self, Set};
 use reference::tree::{self, Join};
 
+/// Of a word in a message.
+const LONGEST_SHOWN: usize = 40;
+
 /// "a", "a and b", "a, b and c".
 pub fn list(words: &[String]) -> String {
     match words {
@@ -12,6 +15,36 @@ pub fn list(words: &[String]) -> String {
         [one] => one.clone(),
         [front @ .., last] => format!("{} and {last}", front.join(", ")),
     }
+}
+
+/// So many of them at most, and how many more: "a, b and 2 more".
+pub fn list_some(words: &[String], most: usize) -> String {
+    match words.split_at_checked(most) {
+        Some((shown, [_, ..])) => format!("{} and {} more", shown.join(", "), words.len() - most),
+        _ => list(words),
+    }
+}
+
+/// The word in quotes, cut where it is long; what can't be seen is told by its number.
+pub fn quoted(word: &str) -> String {
+    let mut shown: String = word.chars().take(LONGEST_SHOWN).map(visible).collect();
+    if word.chars().count() > LONGEST_SHOWN {
+        shown.push_str("..");
+    }
+    format!("'{shown}'")
+}
+
+fn visible(character: char) -> String {
+    if is_unseen(character) && !character.is_alphanumeric() {
+        character.escape_debug().to_string()
+    } else {
+        character.to_string()
+    }
+}
+
+/// Whether it takes no column of its own or moves the cursor.
+pub fn is_unseen(character: char) -> bool {
+    !"'\"\\".contains(character) && character.escape_debug().len() > 1
 }
 
 /// "1 byte", "2 bytes", "no bytes".

@@ -75,11 +75,9 @@ impl<'t> Gathered<'t> {
                 }
                 numbers
             }
-            Said::Join { number: Some(number), .. } => {
-                register.declare_one(Kind::Join, Some(*number), place, faults).into_iter().collect()
-            }
-            Said::Join { number: None, .. } => {
-                register.declare(Kind::Join, &Which::Unread, place, faults)
+            Said::Join { number, .. } => {
+                let which = number.map_or(Which::Unread, |one| Which::List(vec![Some(one)]));
+                register.declare(Kind::Join, &which, place, faults)
             }
             Said::Unread(words) => {
                 register.leave_unread(words);

@@ -7,7 +7,7 @@ use reference::tree::Join;
 use crate::text::fault::Faults;
 use crate::text::gathered::{Ends, Gathered};
 use crate::text::register::Kind;
-use crate::text::vocabulary::listed;
+use crate::wording::{counted, list};
 
 impl Gathered<'_> {
     /// The joins, which reach all relations; nothing where one is faulty, or a statement that
@@ -67,13 +67,11 @@ impl Gathered<'_> {
             return true;
         }
         let place = self.joins.last().map_or(self.end, |&(_, place, _)| place);
-        let counted =
-            |count| if count == 1 { "1 join".to_string() } else { format!("{count} joins") };
         let reason = format!(
             "no join reaches {} from {}; {relations} relations need {}, not {}",
-            listed(&beyond, beyond.len()),
+            list(&beyond),
             self.names.the_relation(0),
-            counted(relations - 1),
+            counted(relations - 1, "join"),
             self.joins.len(),
         );
         faults.tell(place, reason);

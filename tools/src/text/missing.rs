@@ -2,7 +2,7 @@
 
 use crate::text::fault::{Faults, Place};
 use crate::text::once::Once;
-use crate::text::vocabulary::listed;
+use crate::wording::list_some;
 
 /// So many of what is missing are named.
 const MOST_NAMED: usize = 5;
@@ -42,20 +42,22 @@ pub const LINES: Words = Words {
     expected: "expected 'line A to B ..' or 'every line ..'",
 };
 
-/// Those that are missing, at the last statement of the kind or else at the end.
+/// The keys that are missing, at the last statement of the kind or else at the end.
 pub fn tell<K: Ord, V: Copy>(
     of: &Once<K, V>,
     words: &Words,
-    missing: &[String],
+    keys: impl IntoIterator<Item = K>,
+    called: impl Fn(K) -> String,
     end: Place,
     faults: &mut Faults,
 ) {
-    let no = match missing {
+    let missing: Vec<String> = of.missing(keys).into_iter().map(called).collect();
+    let no = match missing[..] {
         [] => return,
         [_] => words.no_one,
         _ => words.no_several,
     };
-    let shown = listed(missing, MOST_NAMED);
+    let shown = list_some(&missing, MOST_NAMED);
     let hint = match of.lines() {
         Some(lines) => format!("{} in {lines}", words.stand),
         None => words.expected.to_string(),

@@ -22,7 +22,6 @@ mod shown;
 mod statement;
 mod terms;
 mod told;
-mod unknown;
 mod vocabulary;
 mod whole;
 

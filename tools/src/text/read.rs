@@ -7,7 +7,8 @@ use crate::text::fault::Faults;
 use crate::text::reading::{Limits, Read, Reading};
 use crate::text::scan::Word;
 use crate::text::statement::{Said, Statement};
-use crate::text::vocabulary::{is_name, is_number, quoted, STATEMENTS};
+use crate::text::vocabulary::{is_name, is_number, STATEMENTS};
+use crate::wording::quoted;
 
 pub const SITE: &str = "the name or number of a site";
 pub const RELATION: &str = "the name or number of a relation";

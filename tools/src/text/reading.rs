@@ -3,7 +3,8 @@
 use crate::near::near;
 use crate::text::fault::{Faults, Place};
 use crate::text::scan::Word;
-use crate::text::vocabulary::{is_name, is_number, is_taken, quoted, NAME_RULE};
+use crate::text::vocabulary::{is_name, is_number, is_taken, NAME_RULE};
+use crate::wording::quoted;
 
 /// Nothing is made of the rest of the line; why is told already.
 #[derive(Clone, Copy, Debug)]

@@ -5,6 +5,7 @@ use std::fmt::Write;
 use crate::failure::Failure;
 use crate::text::fault::{Fault, Place};
 use crate::text::scan;
+use crate::wording::is_unseen;
 
 /// More faults are counted only.
 const MOST_SHOWN: usize = 50;
@@ -71,10 +72,9 @@ fn pointed(shown: &mut String, line: &str, column: usize) {
     put(shown, format_args!("  {}{before}^", " ".repeat(start.len())));
 }
 
-/// What takes no column or moves the cursor gives way to a mark.
+/// What can't be seen gives way to a mark.
 fn visible(character: char) -> char {
-    let odd = character != '\t' && character != ' ' && character.escape_debug().len() > 1;
-    if odd && !"'\"\\".contains(character) {
+    if character != '\t' && is_unseen(character) {
         char::REPLACEMENT_CHARACTER
     } else {
         character

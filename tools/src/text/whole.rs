@@ -8,12 +8,12 @@ use reference::stated::{Form, Stated};
 use reference::tree::{self, Join};
 use reference::units::Bytes;
 
+use crate::text::called::tell_unknown;
 use crate::text::fault::Faults;
 use crate::text::gathered::Gathered;
 use crate::text::missing::{self, DIVISORS, LINES, ROWS, SIZES};
 use crate::text::register::Kind;
-use crate::text::unknown;
-use crate::text::vocabulary::listed;
+use crate::wording::list;
 
 impl Gathered<'_> {
     /// What room is told; nothing where a fault was told.
@@ -53,7 +53,7 @@ impl Gathered<'_> {
 
     /// The joins, where they make a tree; all that is told of a draft too.
     fn checked(&mut self, faults: &mut Faults) -> Option<Vec<Join>> {
-        unknown::tell(&self.register, faults);
+        tell_unknown(&self.register, faults);
         if self.register.sure(Kind::Site) == Some(0) {
             faults.tell(self.end, "no site; expected 'site NAME may join, fixed F, rate R'");
         }
@@ -65,7 +65,7 @@ impl Gathered<'_> {
             if !tree::is_subquery(&joins, set) {
                 let relations: Vec<String> =
                     sets::members(set).map(|one| self.names.the_relation(one)).collect();
-                let relations = listed(&relations, relations.len());
+                let relations = list(&relations);
                 let reason = format!("{relations} are not connected by joins, so have no size");
                 faults.tell(place, reason);
                 self.told.sizes.withdraw();
@@ -77,30 +77,24 @@ impl Gathered<'_> {
     /// The size of every subquery, ascending.
     fn sizes(&self, joins: &[Join], faults: &mut Faults) -> Option<Vec<Bytes>> {
         let subqueries = tree::subqueries(joins, joins.len() + 1);
-        let missing = self.told.sizes.missing(subqueries.iter().copied());
-        let missing: Vec<String> =
-            missing.into_iter().map(|set| format!("'{}'", self.names.set(set))).collect();
+        let sizes = &self.told.sizes;
         if !self.told.both && !self.register.unread {
-            missing::tell(&self.told.sizes, &SIZES, &missing, self.end, faults);
+            let called = |set| format!("'{}'", self.names.set(set));
+            missing::tell(sizes, &SIZES, subqueries.clone(), called, self.end, faults);
         }
-        let size = |set| self.told.sizes.get(set).map(Bytes);
-        subqueries.iter().map(size).collect()
+        subqueries.iter().map(|set| sizes.get(set).map(Bytes)).collect()
     }
 
     /// Rows of every relation and a divisor of every join.
     fn row_counts(&self, joins: &[Join], faults: &mut Faults) -> Option<RowCounts> {
         let (rows, divisors) = (&self.told.rows, &self.told.divisors);
         if !self.told.both && !self.register.unread {
-            let missing = rows.missing(0..joins.len() + 1);
-            let missing: Vec<String> =
-                missing.into_iter().map(|one| self.names.the_relation(one)).collect();
-            missing::tell(rows, &ROWS, &missing, self.end, faults);
-            let missing = divisors.missing(0..joins.len());
-            let missing: Vec<String> =
-                missing.into_iter().map(|one| format!("join {one}")).collect();
-            missing::tell(divisors, &DIVISORS, &missing, self.end, faults);
+            let relation = |one| self.names.the_relation(one);
+            missing::tell(rows, &ROWS, 0..=joins.len(), relation, self.end, faults);
+            let join = |one| format!("join {one}");
+            missing::tell(divisors, &DIVISORS, 0..joins.len(), join, self.end, faults);
         }
-        let rows = (0..joins.len() + 1).map(|one| rows.get(&one)).collect::<Option<_>>()?;
+        let rows = (0..=joins.len()).map(|one| rows.get(&one)).collect::<Option<_>>()?;
         let divisors = (0..joins.len()).map(|one| divisors.get(&one)).collect::<Option<_>>()?;
         Some(RowCounts { rows, divisors })
     }
@@ -108,12 +102,10 @@ impl Gathered<'_> {
     fn lines_in_order(&self, faults: &mut Faults) -> Option<Vec<Line>> {
         let ends: Vec<(usize, usize)> = Query::line_ends(self.register.sure(Kind::Site)?).collect();
         if self.every_line.is_empty() {
-            let shown = |(sender, receiver)| {
+            let line = |(sender, receiver)| {
                 format!("{} to {}", self.names.site(sender), self.names.site(receiver))
             };
-            let missing = self.lines.missing(ends.iter().copied());
-            let missing: Vec<String> = missing.into_iter().map(shown).collect();
-            missing::tell(&self.lines, &LINES, &missing, self.end, faults);
+            missing::tell(&self.lines, &LINES, ends.clone(), line, self.end, faults);
         }
         let line = |ends: &(usize, usize)| match self.lines.has(ends) {
             true => self.lines.get(ends),
