@@ -64,6 +64,12 @@ pub fn range(least: u64, most: u64) -> String {
     format!("{least} to {most}")
 }
 
+/// Every relation of a set: "customers, orders and relation 3".
+pub fn each_relation(names: &Names, set: Set) -> String {
+    let each: Vec<String> = sets::members(set).map(|one| names.the_relation(one)).collect();
+    list(&each)
+}
+
 /// The relations of a set: one by itself, several in braces.
 pub fn relations(names: &Names, set: Set) -> String {
     if sets::count(set) == 1 {
@@ -82,6 +88,6 @@ pub fn held(names: &Names, held: &Held) -> String {
 pub fn not_reached(names: &Names, joins: &[Join], n: usize) -> String {
     let everything = sets::everything(n);
     let missing = everything & !tree::grown(joins, 0, everything, None);
-    let each: Vec<String> = sets::members(missing).map(|one| names.the_relation(one)).collect();
-    format!("the joins do not reach {} from {}", list(&each), names.the_relation(0))
+    let missing = each_relation(names, missing);
+    format!("the joins do not reach {missing} from {}", names.the_relation(0))
 }

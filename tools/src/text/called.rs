@@ -51,52 +51,46 @@ impl<'t> Register<'t> {
         none || unread
     }
 
-    /// Those names of a kind that are within its limit, by number.
-    pub fn names_of(&self, kind: Kind) -> Vec<Option<String>> {
+    pub fn names(&self) -> Names {
+        Names { sites: self.names_of(Kind::Site), relations: self.names_of(Kind::Relation) }
+    }
+
+    /// By number, within the limit; none at all where none has one.
+    fn names_of(&self, kind: Kind) -> Vec<Option<String>> {
         let mut names = vec![None; self.of(kind).count().min(MOST_RELATIONS)];
         for (&(known, name), &(number, _)) in &self.named {
             if let Some(place) = names.get_mut(number).filter(|_| known == kind) {
                 *place = Some(name.to_string());
             }
         }
+        if names.iter().all(Option::is_none) {
+            names.clear();
+        }
         names
     }
 
-    pub fn names(&self) -> Names {
-        let known = |kind| {
-            let names = self.names_of(kind);
-            if names.iter().all(Option::is_none) {
-                Vec::new()
-            } else {
-                names
-            }
-        };
-        Names { sites: known(Kind::Site), relations: known(Kind::Relation) }
-    }
-}
-
-/// Each word once, where it stands first. One that comes near no name is left out where the name
-/// may stand in a declaration that is faulty.
-pub fn tell_unknown(register: &Register, faults: &mut Faults) {
-    let names = [Kind::Site, Kind::Relation, Kind::Join].map(|kind| register.names_of(kind));
-    for (&(kind, word), (place, again)) in &register.unknown {
-        let ordered = register.of(kind);
-        let (own, others, other) = match kind {
-            Kind::Site => (&names[0], &names[1], "relation"),
-            Kind::Relation => (&names[1], &names[0], "site"),
-            Kind::Join => (&names[2], &names[2], "join"),
-        };
-        let hint = match near(word, own.iter().flatten().map(String::as_str)) {
-            Some(meant) => format!("did you mean '{meant}'?"),
-            None if ordered.doubted || !ordered.sure => continue,
-            None if others.iter().any(|name| name.as_deref() == Some(word)) => {
-                format!("that is a {other}")
-            }
-            None => there_are(ordered, word, own),
-        };
-        let shown = if is_short_number(word) { word.into() } else { quoted(word) };
-        let also = also(place.line, again);
-        faults.tell(*place, format!("no {} {shown}; {hint}{also}", ordered.one));
+    /// Each word that calls nothing, where it stands first. One that comes near no name is left
+    /// out where the name may stand in a declaration that is faulty.
+    pub fn tell_unknown(&self, names: &Names, faults: &mut Faults) {
+        for (&(kind, word), (place, again)) in &self.unknown {
+            let ordered = self.of(kind);
+            let (own, others, other) = match kind {
+                Kind::Site => (&names.sites[..], &names.relations[..], "relation"),
+                Kind::Relation => (&names.relations[..], &names.sites[..], "site"),
+                Kind::Join => (&[][..], &[][..], "join"),
+            };
+            let hint = match near(word, own.iter().flatten().map(String::as_str)) {
+                Some(meant) => format!("did you mean '{meant}'?"),
+                None if ordered.doubted || !ordered.sure => continue,
+                None if others.iter().any(|name| name.as_deref() == Some(word)) => {
+                    format!("that is a {other}")
+                }
+                None => there_are(ordered, word, own),
+            };
+            let shown = if is_short_number(word) { word.into() } else { quoted(word) };
+            let also = also(place.line, again);
+            faults.tell(*place, format!("no {} {shown}; {hint}{also}", ordered.one));
+        }
     }
 }
 

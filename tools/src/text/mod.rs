@@ -10,7 +10,6 @@ mod called;
 mod fault;
 mod gathered;
 mod joins;
-mod missing;
 mod once;
 mod ordered;
 mod read;
@@ -18,15 +17,13 @@ mod reading;
 mod refer;
 mod register;
 pub mod scan;
-mod shown;
+mod sizing;
 mod statement;
 mod terms;
-mod told;
 mod vocabulary;
 mod whole;
 
-pub use fault::{Fault, Faults, Place};
-pub use shown::{decoded, refused};
+pub use fault::{decoded, refused, Fault, Faults, Place};
 pub use vocabulary::is_name;
 
 use reference::names::Names;

@@ -25,7 +25,7 @@ const LONGEST_NAME: usize = 64;
 
 /// What a message says of a word that could be no name.
 pub const NAME_RULE: &str =
-    "a name begins with a letter and has letters, digits, '_', '-' and '.', at most 64";
+    "; a name begins with a letter and has letters, digits, '_', '-' and '.', at most 64";
 
 /// A word of the statements, which is no name.
 pub fn is_taken(word: &str) -> bool {
