@@ -5,24 +5,14 @@ mod common;
 use std::io::Write;
 use std::process::{Command, Stdio};
 
+use common::examples::{self, EXAMPLES};
 use common::{example, held_to, proved, run, subcommands};
 use fanchuki::cheapest::{self, Cheapest};
 use fanchuki::drawn;
 
-const EXAMPLES: [&str; 6] =
-    ["q", "chain-of-five", "longest-plan", "star-of-nine", "two-indexes", "chain-from-rows"];
-
 #[test]
 fn every_example_is_drawn() {
-    for name in EXAMPLES {
-        let drawn = run(&["draw", &example(&format!("{name}.txt"))]);
-        assert_eq!((drawn.code, drawn.said.as_str()), (0, ""), "{name}");
-        held_to(&format!("draw-{name}.dot"), &drawn.text());
-    }
-    let of_text = run(&["draw", &example("q.txt")]);
-    assert_eq!(of_text, run(&["draw", &example("q.query")]));
-    let of_text = run(&["draw", &example("chain-from-rows.txt")]);
-    assert_eq!(of_text, run(&["draw", &example("chain-from-rows.rows"), "--rows"]));
+    examples::are_stored("draw", "dot");
 }
 
 fn with_names(relations: [&str; 4], sites: [&str; 3]) -> String {
@@ -61,7 +51,7 @@ fn picture(drawing: &str) -> Option<String> {
 #[test]
 fn graphviz_takes_the_drawings() {
     for name in EXAMPLES {
-        let drawing = run(&["draw", &example(&format!("{name}.txt"))]).text();
+        let drawing = run(&["draw", &examples::text(name)]).text();
         assert!(picture(&drawing).is_none_or(|svg| svg.contains("<svg")));
     }
     let Some(svg) = picture(&with_odd_names()) else { return };

@@ -6,6 +6,7 @@ use std::fs;
 use std::path::{Path, PathBuf};
 
 use common::stand_in::{run_by_answers, run_by_dot, CALLS_OF_Q};
+use common::texts::q;
 use common::{empty_folder, example, run, run_of, run_on, tool};
 
 /// Shows what it was given.
@@ -87,8 +88,7 @@ fn what_cannot_be_written_is_a_fault() {
 
 #[test]
 fn no_route_is_not_drawn() {
-    let text = fs::read_to_string(example("q.txt")).expect("the example");
-    let closed = text.replace("every line open", "every line closed");
+    let closed = q().replace("every line open", "every line closed");
     let out = path(&empty("no-route"), "plan.dot");
     let ended = run_on(&["draw", "-", "-o", &out], closed.as_bytes());
     assert_eq!((ended.code, ended.text()), (1, String::new()));

@@ -4,6 +4,7 @@ mod common;
 
 use std::fs;
 
+use common::examples::{self, EXAMPLES};
 use common::{example, held_to, run, run_on, scratch, texts, Run};
 use reference::encode;
 use reference::generate::queries::Extent;
@@ -13,16 +14,6 @@ use reference::random::Random;
 use reference::stated::{Form, Stated};
 use reference::text;
 
-/// A text example, the ending of its file, and what `pack` says of it.
-const EXAMPLES: [(&str, &str, &str); 6] = [
-    ("q", "query", "a file for load\n"),
-    ("chain-of-five", "query", "a file for load\n"),
-    ("longest-plan", "query", "a file for load\n"),
-    ("star-of-nine", "query", "a file for load\n"),
-    ("two-indexes", "query", "a file for load\n"),
-    ("chain-from-rows", "rows", "a file for load from rows\n"),
-];
-
 fn refused(run: &Run, code: i32, said: &str) {
     assert_eq!((run.code, run.printed.len()), (code, 0), "{}", run.said);
     let first = run.said.lines().next().expect("something is said");
@@ -31,25 +22,17 @@ fn refused(run: &Run, code: i32, said: &str) {
 }
 
 #[test]
-fn every_example_packs_to_its_file() {
-    for (name, ending, said) in EXAMPLES {
-        let packed = run(&["pack", &example(&format!("{name}.txt"))]);
-        let file = fs::read(example(&format!("{name}.{ending}"))).expect("the example");
+fn every_example_packs_to_its_file_and_back() {
+    for name in EXAMPLES {
+        let words = examples::packed(name);
+        let packed = run(&["pack", &examples::text(name)]);
+        let file = fs::read(&words[0]).expect("the example");
         assert!(packed.printed == file, "{name}");
+        let said = ["a file for load\n", "a file for load from rows\n"][words.len() - 1];
         assert_eq!((packed.code, packed.said.as_str()), (0, said), "{name}");
-    }
-}
-
-#[test]
-fn every_example_unpacks_to_a_text_that_packs_to_it() {
-    for (name, ending, _) in EXAMPLES {
-        let path = example(&format!("{name}.{ending}"));
-        let file = fs::read(&path).expect("the example");
-        let words = ["unpack", &path, "--rows"];
-        let words = if ending == "rows" { &words[..] } else { &words[..2] };
-        let unpacked = run(words);
+        let unpacked = run(&[vec!["unpack".into()], words].concat());
         assert_eq!((unpacked.code, unpacked.said.as_str()), (0, ""), "{name}");
-        assert!(run_on(&["pack", "-"], &unpacked.printed).printed == file, "{name}");
+        assert_eq!(run_on(&["pack", "-"], &unpacked.printed), packed, "{name}");
         held_to(&format!("unpack-{name}.txt"), &unpacked.text());
     }
 }

@@ -4,6 +4,7 @@
 #![allow(dead_code)]
 
 pub mod damage;
+pub mod examples;
 pub mod proved;
 pub mod stand_in;
 pub mod subcommands;

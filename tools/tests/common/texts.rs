@@ -2,8 +2,15 @@
 
 use fanchuki::text::{self, is_name, Fault};
 use reference::names::Names;
+use reference::pinned;
 use reference::query::Query;
 use reference::random::Random;
+use reference::text::print;
+
+/// Q of docs/RULES.md.
+pub fn q() -> String {
+    print(&pinned::q().into(), &Names::default())
+}
 
 /// Three relations at three sites, all by names.
 pub const NAMED: &str = "\
