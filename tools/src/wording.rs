@@ -34,6 +34,15 @@ pub fn quoted(word: &str) -> String {
     format!("'{shown}'")
 }
 
+/// A number as it is written, or in quotes where it is long.
+pub fn number(digits: &str) -> String {
+    if digits.len() < 20 {
+        digits.to_string()
+    } else {
+        quoted(digits)
+    }
+}
+
 fn visible(character: char) -> String {
     if is_unseen(character) && !character.is_alphanumeric() {
         character.escape_debug().to_string()

@@ -5,6 +5,7 @@ use reference::names::Names;
 use crate::near::did_you_mean;
 use crate::text::scan::Word;
 use crate::text::Place;
+use crate::wording::{number, quoted};
 
 /// A reason, and where.
 pub type Wrong = (Place, String);
@@ -22,7 +23,7 @@ pub fn step(first: &Word, rest: &[Word], names: &Names) -> Result<[u8; 2], Wrong
         word => {
             let meant = did_you_mean(word, ["load", "send", "join"]);
             let expected = "one is 'load RELATION', 'send SITE' or 'join NUMBER'";
-            Err((first.place, format!("'{word}' is no step: {expected}{meant}")))
+            Err((first.place, format!("{} is no step: {expected}{meant}", quoted(word))))
         }
     }
 }
@@ -44,7 +45,7 @@ fn argument(
     }
     match rest {
         [] => Err((last.end(), format!("a {what} is missing behind '{}'", last.text))),
-        [_, more, ..] => Err((more.place, format!("'{}' is one word too many", more.text))),
+        [_, more, ..] => Err((more.place, format!("{} is one word too many", quoted(more.text)))),
         [word] => named(word, what, names),
     }
 }
@@ -59,18 +60,19 @@ fn named(word: &Word, what: &str, names: &[Option<String>]) -> Result<u8, Wrong>
     }
     let known: Vec<&str> = names.iter().flatten().map(String::as_str).collect();
     let meant = did_you_mean(text, known.iter().copied());
+    let shown = quoted(text);
     Err((
         word.place,
         match (meant.is_empty(), known.is_empty()) {
-            (_, true) => format!("'{text}' is not a number"),
-            (true, false) => format!("no {what} '{text}'; there are {}", known.join(", ")),
-            (false, false) => format!("no {what} '{text}'{meant}"),
+            (_, true) => format!("{shown} is not a number"),
+            (true, false) => format!("no {what} {shown}; there are {}", known.join(", ")),
+            (false, false) => format!("no {what} {shown}{meant}"),
         },
     ))
 }
 
 /// A number as a plan's bytes have it.
 fn byte(word: &Word) -> Result<u8, Wrong> {
-    let above = format!("{} is above {}, the most in a plan", word.text, u8::MAX);
+    let above = format!("{} is above {}, the most in a plan", number(word.text), u8::MAX);
     word.text.parse().map_err(|_| (word.place, above))
 }

@@ -9,7 +9,7 @@ use crate::text::ordered::Ordered;
 use crate::text::register::{Kind, Register};
 use crate::text::scan::Word;
 use crate::text::vocabulary::is_number;
-use crate::wording::{list, list_some, quoted};
+use crate::wording::{list, list_some, number, quoted};
 
 /// So many lines are told that have such a word again.
 const MOST_LINES: usize = 4;
@@ -87,15 +87,11 @@ impl<'t> Register<'t> {
                 }
                 None => there_are(ordered, word, own),
             };
-            let shown = if is_short_number(word) { word.into() } else { quoted(word) };
+            let shown = if is_number(word) { number(word) } else { quoted(word) };
             let also = also(place.line, again);
             faults.tell(*place, format!("no {} {shown}; {hint}{also}", ordered.one));
         }
     }
-}
-
-fn is_short_number(word: &str) -> bool {
-    is_number(word) && word.len() < 20
 }
 
 /// The other lines that have the word.
