@@ -8,7 +8,6 @@ use common::examples::{self, EXAMPLES};
 use common::{example, held_to, run, run_on, scratch, texts, Run};
 use reference::encode;
 use reference::generate::queries::Extent;
-use reference::generate::rows;
 use reference::names::Names;
 use reference::random::Random;
 use reference::stated::{Form, Stated};
@@ -37,12 +36,8 @@ fn every_example_packs_to_its_file_and_back() {
     }
 }
 
-/// A random query, with names for some of its sites and relations.
 fn named(seed: u64, case: u64, form: Form) -> (Stated, Names) {
-    let random = &mut Random::for_case(seed, case);
-    let stated = rows::stated(random, &Extent::full(), form);
-    let names = texts::names(random, &stated.query);
-    (stated, names)
+    texts::random_query(&mut Random::for_case(seed, case), &Extent::full(), form)
 }
 
 #[test]

@@ -1,7 +1,6 @@
 //! The proved program `calls`, asked by a test itself.
 
 use std::env;
-use std::path::Path;
 
 use fanchuki::given::Given;
 use fanchuki::proved::calls::Calls;
@@ -14,7 +13,7 @@ use reference::pinned;
 use reference::random::Random;
 use reference::stated::{Form, Stated};
 
-use super::root;
+use super::{root, stored};
 
 pub fn start() -> Calls {
     find_programs();
@@ -56,8 +55,8 @@ pub fn random(seed: u64, case: u64) -> Stated {
 /// A query of four tables in force, by these names.
 pub fn four_tables(relations: [&str; 4], sites: [&str; 3]) -> (Loaded, Given) {
     find_programs();
-    let text = Path::new(env!("CARGO_MANIFEST_DIR")).join("tests/stored/four-tables.txt");
-    let mut given = Given::read(text.as_os_str(), false).expect("the text is right");
+    let text = stored("four-tables.txt");
+    let mut given = Given::read(text.as_ref(), false).expect("the text is right");
     given.names = names(&sites, &relations);
     (Loaded::load(given.clone()).expect("the query is loaded"), given)
 }
