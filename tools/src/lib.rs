@@ -1,6 +1,6 @@
 //! The tool `fanchuki`: a query planned, explained and drawn for people.
 //!
-//! It plans, links and checks by the proved programs (`programs`, `calls`). The reference's
+//! It plans, links and checks by the proved programs (`proved`). The reference's
 //! model serves it for words, for prices taken apart and for drawings only.
 
 pub mod cheapest;

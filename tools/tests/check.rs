@@ -1,43 +1,40 @@
 //! `fanchuki check`: the verdict is the proved one, and every refusal has its words.
 
 mod common;
-mod proved;
 
 use std::fs;
 
-use common::{example, held_to, run, run_on};
+use common::examples::{self, EXAMPLES};
+use common::proved;
+use common::{example, held_to, run, run_on, stored};
 use fanchuki::checked::plan_text::{self, PlanText};
 use fanchuki::checked::verdict::verdict;
 use reference::generate::plans;
 use reference::generate::queries::{self, Extent};
 use reference::method::Method;
-use reference::names::Names;
 use reference::pinned;
 use reference::random::Random;
 use reference::solve;
 
-const Q: &str = "q.txt";
-
-/// The code and what is printed or said of a plan for an example.
-fn check(name: &str, plan: &[u8]) -> (i32, String) {
-    let run = run_on(&["check", &example(name), "-"], plan);
+/// The code and what is printed or said of a plan for Q.
+fn check(plan: &[u8]) -> (i32, String) {
+    let run = run_on(&["check", &example("q.txt"), "-"], plan);
     assert!(run.printed.is_empty() || run.said.is_empty());
     (run.code, run.text() + &run.said)
 }
 
 #[test]
 fn a_printed_plan_checks_at_its_own_cost() {
-    let texts = ["q", "chain-of-five", "longest-plan", "star-of-nine", "two-indexes"];
-    let texts = texts.map(|name| format!("{name}.txt"));
-    for name in texts.iter().map(String::as_str).chain(["chain-from-rows.txt"]) {
-        let printed = run(&["plan", &example(name)]).text();
+    for name in EXAMPLES {
+        let printed = run(&["plan", &examples::text(name)]).text();
         let cost = printed.split(' ').nth(3).expect("a cost");
         let accepted = format!("accepted at {cost}\nthis is the cheapest cost\n");
-        assert_eq!(check(name, printed.as_bytes()), (0, accepted), "{name}");
+        for file in [vec![examples::text(name)], examples::packed(name)] {
+            let words = [&["check".into()], &file[..], &["-".into()]].concat();
+            let checked = run_on(&words, printed.as_bytes());
+            assert_eq!(checked.told(), (0, accepted.clone(), String::new()), "{words:?}");
+        }
     }
-    let rows = example("chain-from-rows.rows");
-    let printed = run(&["plan", "--rows", &rows]).printed;
-    assert_eq!(run_on(&["check", "--rows", &rows, "-"], &printed).code, 0);
 }
 
 /// What docs/RULES.md, 14.2, and docs/FORMAT.md say of plans for Q.
@@ -61,13 +58,13 @@ fn plans_for_q_are_stored() {
     ];
     let mut transcript = String::new();
     for text in texts {
-        let (code, said) = check(Q, text.as_bytes());
+        let (code, said) = check(text.as_bytes());
         transcript += &format!("{text}-> {code} {said}\n");
     }
     for bytes in
         [&b"\x04\x01\0\x01\x01\x02\0\x03"[..], b"\x23\x01", b"\0", b"\x01\x04\0", b"\x01\x02\x03"]
     {
-        let (code, said) = check(Q, bytes);
+        let (code, said) = check(bytes);
         transcript += &format!("{bytes:?}\n-> {code} {said}\n");
     }
     held_to("check-q.txt", &transcript);
@@ -79,11 +76,6 @@ fn a_chain_with_names_is_stored() {
     let mut query = pinned::chain_of_five();
     query.sites[1].may_join = false;
     query.line_mut(0, 2).open = false;
-    let some = |name: &str| Some(name.to_string());
-    let names = Names {
-        sites: vec![some("north"), some("south"), some("east")],
-        relations: vec![some("customers"), some("orders"), some("items")],
-    };
     let texts: [&str; 11] = [
         "load customers\nsend to south\nload orders\njoin 0\n",
         "load customers\nsend east\n",
@@ -97,7 +89,9 @@ fn a_chain_with_names_is_stored() {
         "load orders\nload customers\nload items\n",
         "load items\njoin 1\n",
     ];
-    let mut loaded = proved::load(proved::start(), query, names);
+    let mut loaded = proved::running();
+    proved::put(&mut loaded, query.into());
+    loaded.names = proved::names(&["north", "south", "east"], &["customers", "orders", "items"]);
     let mut transcript = String::new();
     for text in texts {
         let plan = plan_text::parse(text, &loaded.names).expect("a plan");
@@ -110,22 +104,22 @@ fn a_chain_with_names_is_stored() {
 
 #[test]
 fn the_text_s_faults_refuse_it() {
-    let (code, said) = check(Q, b"load 0\nlod 1\n\nsend\n");
+    let (code, said) = check(b"load 0\nlod 1\n\nsend\n");
     assert_eq!(code, 1);
     let lines: Vec<&str> = said.lines().collect();
     assert_eq!(lines.len(), 7, "{said}");
     assert!(lines[0].starts_with("standard input:2:1: 'lod' "), "{said}");
     assert!(lines[3].starts_with("standard input:4:5: "), "{said}");
     assert_eq!((lines[5], lines[6]), ("      ^", "2 faults"), "{said}");
-    assert_eq!(check(Q, b"load \xff\n").0, 1);
+    assert_eq!(check(b"load \xff\n").0, 1);
 }
 
 #[test]
 fn at_most_34_steps() {
     let longest = "load 0\n".repeat(34);
-    let (code, said) = check(Q, longest.as_bytes());
+    let (code, said) = check(longest.as_bytes());
     assert!(code == 1 && said.starts_with("refused 9 at step 1 (line 2), load 0: "), "{said}");
-    let (code, said) = check(Q, format!("{longest}\nload 0\nload 0\n").as_bytes());
+    let (code, said) = check(format!("{longest}\nload 0\nload 0\n").as_bytes());
     assert_eq!(code, 1);
     let told = ":36:1: a plan has at most 34 steps, and this is one more\n  load 0\n  ^\n";
     assert!(said.ends_with(told), "{said}");
@@ -134,7 +128,7 @@ fn at_most_34_steps() {
 #[test]
 fn bytes_of_any_length() {
     for length in [100, 65_535, 65_536, 70_000] {
-        let (code, said) = check(Q, &vec![4; length]);
+        let (code, said) = check(&vec![4; length]);
         assert_eq!(code, 1);
         assert_eq!(said, format!("refused 7: a count of 4 wants 9 bytes, and it has {length}\n"));
     }
@@ -142,34 +136,33 @@ fn bytes_of_any_length() {
 
 #[test]
 fn usage() {
-    let q = example(Q);
+    let q = example("q.txt");
     for words in [&["check"][..], &["check", &q], &["check", "-", "-"], &["check", &q, "-", "x"]] {
         let run = run_on(words, b"load 0\n");
         assert_eq!((run.code, run.printed.len()), (2, 0), "{words:?}");
     }
     assert_eq!(run(&["check", &q, "/no/such/plan"]).code, 2);
     let query = fs::read(&q).expect("the example");
-    let plan = example("../tools/tests/stored/plan-q.txt");
+    let plan = stored("plan-q.txt");
     assert_eq!(run_on(&["check", "-", &plan], &query).code, 0);
 }
 
 #[test]
 fn thousands_of_plans_have_one_verdict_and_words() {
-    let mut calls = proved::start();
+    let mut loaded = proved::running();
     let mut met = [0; 13];
     for case in 0..400 {
         let mut random = Random::for_case(73, case);
         let extent = if case % 2 == 0 { Extent::full() } else { Extent::small() };
         let query = queries::query(&mut random, &extent);
         let cheapest = solve::solve(&query, Method::Rules).map(|plan| plan.steps);
-        let mut loaded = proved::load(calls, query, Names::default());
+        proved::put(&mut loaded, query.into());
         for _ in 0..20 {
             let plan = plans::to_check(&mut random, &loaded.query, cheapest.as_deref());
             let plan = PlanText { plan, lines: Vec::new() };
             let done = verdict(&mut loaded, &plan).expect("a verdict");
             met[judged(&String::from_utf8(done.printed).expect("UTF-8"), done.code)] += 1;
         }
-        calls = loaded.calls;
     }
     for number in [0, 7, 8, 9, 10, 11, 12] {
         assert!(met[number] > 50, "{number}: {met:?}");

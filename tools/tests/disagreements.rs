@@ -1,31 +1,25 @@
 //! Where the proved program and the tool's model come to two answers, the tool ends with 3.
 
 mod common;
-mod fake;
 
-use common::example;
+use common::stand_in::{run_by_answers, run_by_script};
+use common::{example, stored};
 
 /// A plan of Q that costs 21, and one that is refused with 11 at step 2.
-const RIGHT: &str = "../tools/tests/stored/plan-q.txt";
-const WRONG: &str = "../tools/tests/stored/plan-two-indexes.txt";
+const RIGHT: &str = "plan-q.txt";
+const WRONG: &str = "plan-two-indexes.txt";
 
 const LOAD: &str = "load 2 3";
 /// The answer of solve for Q, its plan and the rest of the output.
 const PLAN: &str = "040100010102000300";
-
-/// A program that answers with these lines and keeps its ends open.
-fn answers(lines: &[String]) -> String {
-    let lines: Vec<String> = lines.iter().map(|line| format!("echo '{line}'; ")).collect();
-    lines.concat() + "exec cat >/dev/null"
-}
 
 fn solved(cost: u64) -> String {
     format!("solved {cost} 9 3 {PLAN}{}", "00".repeat(60))
 }
 
 fn check(plan: &str, lines: &[&str]) -> (i32, String, String) {
-    let lines: Vec<String> = [LOAD].iter().chain(lines).map(|line| line.to_string()).collect();
-    fake::run(&answers(&lines), &["check", &example("q.txt"), &example(plan)])
+    let answers = format!("{LOAD}\n{}\n", lines.join("\n"));
+    run_by_answers(&answers, &["check", &example("q.txt"), &stored(plan)]).told()
 }
 
 fn is_fault((code, printed, said): (i32, String, String)) {
@@ -75,9 +69,9 @@ fn a_solve_that_does_not_go_with_check() {
 }
 
 fn whatif(words: &[&str], lines: &[&str]) -> (i32, String, String) {
-    let lines: Vec<String> = lines.iter().map(|line| line.to_string()).collect();
+    let answers = lines.join("\n") + "\n";
     let q = example("q.txt");
-    fake::run(&answers(&lines), &[&["whatif", &q, "--line"], words].concat())
+    run_by_answers(&answers, &[&["whatif", &q, "--line"], words].concat()).told()
 }
 
 #[test]
@@ -118,9 +112,10 @@ fn another_answer_of_solve_or_link() {
 
 #[test]
 fn a_program_that_ends_too_early() {
-    for calls in ["true", "exit 3", "echo load 2 3", "kill -s SEGV $$"] {
-        is_fault(fake::run(calls, &["check", &example("q.txt"), &example(RIGHT)]));
-        is_fault(fake::run(calls, &["whatif", &example("q.txt"), "--line", "1", "0"]));
+    let q = example("q.txt");
+    for script in ["true", "exit 3", "echo load 2 3", "kill -s SEGV $$"] {
+        is_fault(run_by_script(script, &["check", &q, &stored(RIGHT)]).told());
+        is_fault(run_by_script(script, &["whatif", &q, "--line", "1", "0"]).told());
     }
 }
 

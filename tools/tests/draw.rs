@@ -1,33 +1,22 @@
 //! `fanchuki draw`, over the examples and with names.
 
 mod common;
-mod named;
 
 use std::io::Write;
 use std::process::{Command, Stdio};
 
-use common::{example, held_to, run};
+use common::examples::{self, EXAMPLES};
+use common::{example, held_to, proved, run, subcommands};
 use fanchuki::cheapest::{self, Cheapest};
 use fanchuki::drawn;
 
-const EXAMPLES: [&str; 6] =
-    ["q", "chain-of-five", "longest-plan", "star-of-nine", "two-indexes", "chain-from-rows"];
-
 #[test]
 fn every_example_is_drawn() {
-    for name in EXAMPLES {
-        let drawn = run(&["draw", &example(&format!("{name}.txt"))]);
-        assert_eq!((drawn.code, drawn.said.as_str()), (0, ""), "{name}");
-        held_to(&format!("draw-{name}.dot"), &drawn.text());
-    }
-    let of_text = run(&["draw", &example("q.txt")]);
-    assert_eq!(of_text, run(&["draw", &example("q.query")]));
-    let of_text = run(&["draw", &example("chain-from-rows.txt")]);
-    assert_eq!(of_text, run(&["draw", &example("chain-from-rows.rows"), "--rows"]));
+    examples::are_stored("draw", "dot");
 }
 
 fn with_names(relations: [&str; 4], sites: [&str; 3]) -> String {
-    let (mut loaded, _) = named::loaded(relations, sites);
+    let (mut loaded, _) = proved::four_tables(relations, sites);
     let Ok(Cheapest::Plan(plan)) = cheapest::find(&mut loaded) else { panic!("no plan") };
     drawn::dot(&loaded.query, &loaded.names, &plan).expect("a tree")
 }
@@ -62,7 +51,7 @@ fn picture(drawing: &str) -> Option<String> {
 #[test]
 fn graphviz_takes_the_drawings() {
     for name in EXAMPLES {
-        let drawing = run(&["draw", &example(&format!("{name}.txt"))]).text();
+        let drawing = run(&["draw", &examples::text(name)]).text();
         assert!(picture(&drawing).is_none_or(|svg| svg.contains("<svg")));
     }
     let Some(svg) = picture(&with_odd_names()) else { return };
@@ -79,25 +68,10 @@ fn a_hyphen_is_standard_output() {
 }
 
 #[test]
-fn bad_usage() {
-    let q = example("q.txt");
-    let wrong: [(&[&str], &str); 8] = [
-        (&["draw"], "the FILE is missing"),
-        (&["draw", &q, "plan.svg"], "'plan.svg' is one word too many"),
-        (&["draw", &q, "-o"], "-o needs a value"),
-        (&["draw", &q, "-o", "a.dot", "-o", "b.dot"], "-o is there twice"),
-        (&["draw", &q, "-o", "plan.png"], "'plan.png' ends neither in .dot nor in .svg"),
-        (&["draw", &q, "-o", "plan"], "'plan' ends neither in .dot nor in .svg"),
-        (&["draw", &q, "-o", ".svg"], "'.svg' ends neither in .dot nor in .svg"),
-        (&["draw", "no-such-file"], "no-such-file: "),
-    ];
-    for (words, reason) in wrong {
-        let ended = run(words);
-        assert_eq!((ended.code, ended.text()), (2, String::new()), "{words:?}");
-        assert!(ended.said.starts_with(&format!("fanchuki: {reason}")), "{}", ended.said);
-        assert!(ended.said.ends_with("'fanchuki draw --help' tells more\n"), "{}", ended.said);
+fn the_file_is_of_a_kind_that_is_drawn() {
+    for out in ["plan.png", "plan", ".svg"] {
+        let ended = run(&["draw", &example("q.txt"), "-o", out]);
+        let said = format!("'{out}' ends neither in .dot nor in .svg");
+        subcommands::is_told(&ended, 2, &said, out);
     }
-    let help = run(&["draw", "--help"]);
-    assert_eq!(help.code, 0);
-    assert!(help.text().contains("usage: fanchuki draw FILE [--rows] [-o OUT]"));
 }

@@ -1,20 +1,19 @@
 //! `fanchuki draw` to files, and where Graphviz's `dot` is missing or fails.
 
 mod common;
-mod stand_in;
 
 use std::fs;
 use std::path::{Path, PathBuf};
 
-use common::{example, run, run_on};
-use stand_in::{folder, run_on_path, run_with, CALLS_OF_Q};
+use common::stand_in::{run_by_answers, run_by_dot, CALLS_OF_Q};
+use common::texts::q;
+use common::{empty_folder, example, run, run_of, run_on, tool};
 
-/// A folder of the test's own, empty.
+/// Shows what it was given.
+const DRAWING: &str = "echo \"drawn by dot $*\"; exec /bin/cat";
+
 fn empty(name: &str) -> PathBuf {
-    let folder = Path::new(env!("CARGO_TARGET_TMPDIR")).join(format!("draw-{name}"));
-    let _ = fs::remove_dir_all(&folder);
-    fs::create_dir_all(&folder).expect("the folder is made");
-    folder
+    empty_folder(&format!("draw-{name}"))
 }
 
 fn path(folder: &Path, name: &str) -> String {
@@ -36,7 +35,7 @@ fn to_a_dot_file() {
 #[test]
 fn to_a_picture() {
     let out = path(&empty("to-svg"), "plan.svg");
-    let ended = run_on_path(&folder("drawing"), &["draw", "-o", &out, &example("q.txt")]);
+    let ended = run_by_dot(DRAWING, &["draw", "-o", &out, &example("q.txt")]);
     assert_eq!((ended.code, ended.text(), ended.said), (0, String::new(), String::new()));
     let picture = fs::read_to_string(out).expect("the picture");
     assert_eq!(picture, format!("drawn by dot -Tsvg\n{}", drawing_of_q()));
@@ -46,7 +45,8 @@ fn to_a_picture() {
 fn without_graphviz_the_dot_file_is_written() {
     let folder = empty("missing");
     let [svg, dot] = ["plan.svg", "plan.dot"].map(|name| path(&folder, name));
-    let ended = run_on_path(&folder, &["draw", "-o", &svg, &example("q.txt")]);
+    let words = ["draw", "-o", &svg, &example("q.txt")];
+    let ended = run_of(tool().args(words).env("PATH", &folder));
     assert_eq!((ended.code, ended.text()), (3, String::new()));
     let said = format!(
         "fanchuki: Graphviz's program 'dot' is not there, so {svg} was not drawn; {dot} was \
@@ -59,13 +59,13 @@ fn without_graphviz_the_dot_file_is_written() {
 
 #[test]
 fn graphviz_that_fails_is_a_fault() {
-    let reasons = [
-        ("failing", "ended by exit status: 7: no such language\n"),
-        ("silent", "printed nothing\n"),
-    ];
-    for (name, reason) in reasons {
-        let out = path(&empty(name), "plan.svg");
-        let ended = run_on_path(&folder(name), &["draw", "-o", &out, &example("star-of-nine.txt")]);
+    let unread = "echo 'no such language' >&2; exit 7";
+    let silent = "exec /bin/cat >/dev/null";
+    for (script, reason) in
+        [(unread, "ended by exit status: 7: no such language\n"), (silent, "printed nothing\n")]
+    {
+        let out = path(&empty("failing"), "plan.svg");
+        let ended = run_by_dot(script, &["draw", "-o", &out, &example("star-of-nine.txt")]);
         assert_eq!((ended.code, ended.text()), (3, String::new()));
         let said = format!("fanchuki: Graphviz's program 'dot' made no picture: {reason}");
         assert_eq!(ended.said, said);
@@ -77,8 +77,9 @@ fn graphviz_that_fails_is_a_fault() {
 fn what_cannot_be_written_is_a_fault() {
     let folder = empty("unwritable");
     for out in ["no/plan.dot", "no/plan.svg"].map(|name| path(&folder, name)) {
-        for programs in [stand_in::folder("drawing"), folder.clone()] {
-            let ended = run_on_path(&programs, &["draw", "-o", &out, &example("q.txt")]);
+        let words = ["draw", "-o", &out, &example("q.txt")];
+        let without_dot = run_of(tool().args(words).env("PATH", &folder));
+        for ended in [run_by_dot(DRAWING, &words), without_dot] {
             assert_eq!((ended.code, ended.text()), (3, String::new()));
             assert!(ended.said.contains(" was not written: "), "{}", ended.said);
         }
@@ -87,8 +88,7 @@ fn what_cannot_be_written_is_a_fault() {
 
 #[test]
 fn no_route_is_not_drawn() {
-    let text = fs::read_to_string(example("q.txt")).expect("the example");
-    let closed = text.replace("every line open", "every line closed");
+    let closed = q().replace("every line open", "every line closed");
     let out = path(&empty("no-route"), "plan.dot");
     let ended = run_on(&["draw", "-", "-o", &out], closed.as_bytes());
     assert_eq!((ended.code, ended.text()), (1, String::new()));
@@ -100,10 +100,10 @@ fn no_route_is_not_drawn() {
 fn a_sum_that_is_not_the_proved_cost_is_not_drawn() {
     let out = path(&empty("wrong"), "plan.dot");
     let words = ["draw", &example("q.txt"), "-o", &out];
-    let ended = run_with(&CALLS_OF_Q.replace("solved 21", "solved 20"), &words);
+    let ended = run_by_answers(&CALLS_OF_Q.replace("solved 21", "solved 20"), &words);
     assert_eq!((ended.code, ended.text()), (3, String::new()));
     let said = "fanchuki: the proved cost is 20, and the prices of the plan's steps come to 21\n";
     assert_eq!(ended.said, said);
     assert!(!Path::new(&out).exists());
-    assert_eq!(run_with(CALLS_OF_Q, &words).code, 0);
+    assert_eq!(run_by_answers(CALLS_OF_Q, &words).code, 0);
 }

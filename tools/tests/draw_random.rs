@@ -1,11 +1,11 @@
 //! Drawings of random plans: every send and every join is there once, with its charge.
 
-mod random;
+mod common;
 
+use common::proved::{put, random, running};
 use fanchuki::cheapest::{self, Cheapest};
 use fanchuki::drawn;
 use fanchuki::priced::Price;
-use random::{put, running, stated};
 use reference::names::Names;
 
 const SEED: u64 = 72;
@@ -24,7 +24,7 @@ fn charges_in_the_drawing_come_to_the_cost() {
     let mut loaded = running();
     let (mut drawn_plans, mut sends, mut spared) = (0, 0, 0);
     for case in 0..1_500 {
-        put(&mut loaded, stated(SEED, case));
+        put(&mut loaded, random(SEED, case));
         let Ok(Cheapest::Plan(plan)) = cheapest::find(&mut loaded) else { continue };
         let text = drawn::dot(&loaded.query, &Names::default(), &plan).expect("a tree");
         let (sent, joined) = (behind(&text, "send: "), behind(&text, "costs "));

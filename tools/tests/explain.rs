@@ -1,32 +1,17 @@
 //! `fanchuki explain`, over the examples, small queries and with names.
 
 mod common;
-mod named;
 
 use std::time::{Duration, Instant};
 
-use common::{example, held_to, run, run_on, Run};
+use common::texts::q;
+use common::{example, examples, held_to, proved, run, run_on, Run};
 use fanchuki::cheapest::{self, Cheapest};
 use fanchuki::explained::Explained;
 
 #[test]
 fn every_example_is_explained() {
-    for name in ["q", "chain-of-five", "longest-plan", "star-of-nine", "two-indexes"] {
-        let of_text = run(&["explain", &example(&format!("{name}.txt"))]);
-        let of_file = run(&["explain", &example(&format!("{name}.query"))]);
-        assert_eq!((of_text.code, of_text.said.as_str()), (0, ""), "{name}");
-        assert_eq!(of_text, of_file, "{name}");
-        held_to(&format!("explain-{name}.txt"), &of_text.text());
-    }
-}
-
-#[test]
-fn rows_go_through_the_second_load() {
-    let of_text = run(&["explain", &example("chain-from-rows.txt")]);
-    let of_file = run(&["explain", "--rows", &example("chain-from-rows.rows")]);
-    assert_eq!(of_text.code, 0);
-    assert_eq!(of_text, of_file);
-    held_to("explain-chain-from-rows.txt", &of_text.text());
+    examples::are_stored("explain", "txt");
 }
 
 fn of(text: &str) -> Run {
@@ -54,19 +39,15 @@ fn one_relation() {
 /// Everything is free, so nothing has a share.
 #[test]
 fn a_cost_of_nothing() {
-    let free = of(&example_text("q.txt")
+    let free = of(&q()
         .replace("fixed 2, rate 1", "fixed 0, rate 0")
         .replace("fixed 1, rate 1", "fixed 0, rate 0"));
     assert_eq!(free.code, 0);
     held_to("explain-free.txt", &free.text());
 }
 
-fn example_text(name: &str) -> String {
-    std::fs::read_to_string(example(name)).expect("an example")
-}
-
 fn with_names(relations: [&str; 4], sites: [&str; 3]) -> String {
-    let (mut loaded, given) = named::loaded(relations, sites);
+    let (mut loaded, given) = proved::four_tables(relations, sites);
     let Ok(Cheapest::Plan(plan)) = cheapest::find(&mut loaded) else { panic!("no plan") };
     let explained = Explained::find(&mut loaded, &given.file, given.form, plan);
     let explained = explained.expect("an explanation");

@@ -1,12 +1,9 @@
-//! `fanchuki explain` with wrong answers, wrong words and nowhere to write.
+//! `fanchuki explain` where the proved program gives wrong answers.
 
 mod common;
-mod stand_in;
 
-use std::fs::OpenOptions;
-
-use common::{example, held_to, run, tool};
-use stand_in::{run_with, CALLS_OF_Q};
+use common::stand_in::{run_by_answers, CALLS_OF_Q};
+use common::{example, held_to};
 
 const NOT_THE_CHEAPEST: &str = "\
 load 2 3
@@ -22,7 +19,7 @@ link
 #[test]
 fn a_sum_that_is_not_the_proved_cost_is_a_fault() {
     let told = |answers: &str| {
-        let ended = run_with(answers, &["explain", &example("q.txt")]);
+        let ended = run_by_answers(answers, &["explain", &example("q.txt")]);
         assert_eq!((ended.code, ended.text()), (3, String::new()), "{}", ended.said);
         ended.said
     };
@@ -53,39 +50,7 @@ fn a_sum_that_is_not_the_proved_cost_is_a_fault() {
 /// The stand-in's right answers are taken, so the faults above come of what was changed.
 #[test]
 fn the_stand_in_is_taken() {
-    let ended = run_with(CALLS_OF_Q, &["explain", &example("q.txt")]);
+    let ended = run_by_answers(CALLS_OF_Q, &["explain", &example("q.txt")]);
     assert_eq!((ended.code, ended.said.as_str()), (0, ""));
     held_to("explain-q.txt", &ended.text());
-}
-
-#[test]
-fn bad_usage() {
-    let q = example("q.txt");
-    let wrong: [(&[&str], &str); 5] = [
-        (&["explain"], "the FILE is missing"),
-        (&["explain", &q, "more"], "'more' is one word too many"),
-        (&["explain", "--row", &q], "no option --row"),
-        (&["explain", "--rows", &q], "--rows is for a packed file, and this is a text"),
-        (&["explain", "no-such-file"], "no-such-file: "),
-    ];
-    for (words, reason) in wrong {
-        let ended = run(words);
-        assert_eq!((ended.code, ended.text()), (2, String::new()), "{words:?}");
-        assert!(ended.said.starts_with(&format!("fanchuki: {reason}")), "{}", ended.said);
-        assert!(ended.said.ends_with("'fanchuki explain --help' tells more\n"), "{}", ended.said);
-    }
-    let help = run(&["explain", "--help"]);
-    assert_eq!(help.code, 0);
-    assert!(help.text().contains("usage: fanchuki explain FILE [--rows]"));
-}
-
-#[test]
-fn output_that_cannot_be_written_is_a_fault() {
-    for words in [["explain", &example("star-of-nine.txt")], ["draw", &example("q.txt")]] {
-        let full = OpenOptions::new().write(true).open("/dev/full").expect("it is there");
-        let ended = tool().args(words).stdout(full).output().expect("the tool starts");
-        assert_eq!(ended.status.code(), Some(3), "{words:?}");
-        let said = String::from_utf8(ended.stderr).expect("UTF-8");
-        assert!(said.starts_with("fanchuki: the output was not written: "), "{said}");
-    }
 }

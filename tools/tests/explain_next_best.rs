@@ -1,10 +1,10 @@
 //! What the next best would have been, held to the model, over random queries.
 
-mod random;
+mod common;
 
+use common::proved::{put, random, running};
 use fanchuki::cheapest::{self, Cheapest};
 use fanchuki::explained::Explained;
-use random::{put, running, stated};
 use reference::method::Method;
 use reference::query::Query;
 use reference::solve;
@@ -17,7 +17,7 @@ fn the_next_best_is_the_models() {
     let mut loaded = running();
     let (mut lines, mut sites, mut dearer, mut none) = (0, 0, 0, 0);
     for case in 0..600 {
-        let stated = stated(SEED, case);
+        let stated = random(SEED, case);
         let form = stated.form();
         let file = put(&mut loaded, stated);
         let Ok(Cheapest::Plan(plan)) = cheapest::find(&mut loaded) else { continue };

@@ -3,6 +3,7 @@
 mod common;
 
 use common::run_on;
+use common::texts::q;
 
 fn no_route(text: &str, trials: u64, reasons: &[&str]) {
     let ended = run_on(&["explain", "-"], text.as_bytes());
@@ -11,19 +12,9 @@ fn no_route(text: &str, trials: u64, reasons: &[&str]) {
     assert_eq!(ended.text(), expected);
 }
 
-const Q: &str = "sites 0 to 2 may join, fixed 2, rate 1
-relation 0 at site 0
-relation 1 at site 1
-join 0 links 0 and 1
-size of 0 is 10
-size of 1 is 4
-size of 0 1 is 3
-every line open, fixed 1, rate 1
-delivery to site 0
-";
-
 #[test]
 fn no_route_says_why() {
+    let q = q();
     let alone = "sites 0 to 1 may join, fixed 2, rate 1\nrelation 0 at site 0\nsize of 0 is 10\n\
                  every line closed, fixed 1, rate 1\ndelivery to site 1\n";
     no_route(
@@ -31,10 +22,10 @@ fn no_route_says_why() {
         0,
         &["relation 0 stands at site 0, and the line from there to site 1 is closed"],
     );
-    no_route(&Q.replace("may join", "may not join"), 3, &["no site may join"]);
+    no_route(&q.replace("may join", "may not join"), 3, &["no site may join"]);
     let sites = "site 0 may not join, fixed 2, rate 1\nsites 1 to 2 may join, fixed 2, rate 1";
     let into = "line 1 to 0 closed, fixed 1, rate 1\nline 2 to 0 closed, fixed 1, rate 1\n";
-    let stopped = Q.replace("sites 0 to 2 may join, fixed 2, rate 1", sites) + into;
+    let stopped = q.replace("sites 0 to 2 may join, fixed 2, rate 1", sites) + into;
     no_route(
         &stopped,
         3,
@@ -53,7 +44,7 @@ fn no_route_says_why() {
            site that may"],
     );
     no_route(
-        &(Q.to_string() + into),
+        &(q + into),
         3,
         &["relation 1 cannot get from its home, site 1, to site 0, alone or joined: no open lines \
            lead there by sites that may join"],

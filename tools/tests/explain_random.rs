@@ -1,11 +1,11 @@
 //! Explanations of thousands of random queries, held to the rules and to the proved answers.
 
-mod random;
+mod common;
 
+use common::proved::{put, random, running};
 use fanchuki::cheapest::{self, Cheapest, Plan};
 use fanchuki::explained::{no_route, steps};
 use fanchuki::priced::Price;
-use random::{put, running, stated};
 use reference::names::Names;
 use reference::query::Query;
 use reference::rules::Stack;
@@ -53,7 +53,7 @@ fn the_sum_is_the_proved_cost() {
     let mut loaded = running();
     let mut seen = Seen::default();
     for case in 0..QUERIES {
-        let stated = stated(SEED, case);
+        let stated = random(SEED, case);
         let form = stated.form();
         put(&mut loaded, stated);
         match cheapest::find(&mut loaded) {

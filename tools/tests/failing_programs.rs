@@ -1,37 +1,34 @@
 //! Proved programs that fail or print what they never print: 3, with the reason.
 
 mod common;
-mod told;
 
 use std::time::{Duration, Instant};
 
+use common::stand_in::{run_by_script, tool_by_script};
+use common::subcommands::{all_fail, is_told};
 use common::{example, held_to, root};
-use told::{all_fail, folder, is_told, run_with, stand_in};
 
 #[test]
 fn programs_that_fail_or_print_nonsense() {
     let scripts = [
-        ("code", "exit 7", "exit status: 7"),
-        ("answer-and-code", "echo refused 21; exit 7", ""),
-        ("signal", "kill -s SEGV $$", "signal: 11"),
-        ("nothing", ":", ""),
-        ("nonsense", "echo nonsense", "nonsense"),
-        ("empty-line", "echo", ""),
-        ("no-line-end", "printf nonsense", "nonsense"),
-        ("bytes", "printf '\\377\\376\\n'", "\u{fffd}"),
-        ("long", "head -c 1000000 /dev/zero", "and more"),
-        ("without-end", "head -c 1000000 /dev/zero | tr '\\0' '\\n'", ""),
-        ("refusal", "echo refused 21", ""),
-        ("half", "printf 'plan 4 cost 21 trials 3\\nload 0\\n'", ""),
-        ("no-number", "printf 'plan x cost 21 trials 3\\n'", ""),
-        ("words", "printf 'plan 1 cost 21 trials 3\\nload x\\n'", ""),
-        ("relation", "printf 'plan 1 cost 21 trials 3\\nload 77777777777777777777\\n'", ""),
+        ("exit 7", "exit status: 7"),
+        ("echo refused 21; exit 7", ""),
+        ("kill -s SEGV $$", "signal: 11"),
+        (":", ""),
+        ("echo nonsense", "nonsense"),
+        ("echo", ""),
+        ("printf nonsense", "nonsense"),
+        ("printf '\\377\\376\\n'", "\u{fffd}"),
+        ("head -c 1000000 /dev/zero", "and more"),
+        ("head -c 1000000 /dev/zero | tr '\\0' '\\n'", ""),
+        ("echo refused 21", ""),
+        ("printf 'plan 4 cost 21 trials 3\\nload 0\\n'", ""),
+        ("printf 'plan x cost 21 trials 3\\n'", ""),
+        ("printf 'plan 1 cost 21 trials 3\\nload x\\n'", ""),
+        ("printf 'plan 1 cost 21 trials 3\\nload 77777777777777777777\\n'", ""),
     ];
-    for (name, script, said) in scripts {
-        let folder = folder(name);
-        stand_in(&folder, "plan", script);
-        stand_in(&folder, "calls", script);
-        all_fail(&folder, said);
+    for (script, said) in scripts {
+        all_fail(|| tool_by_script(script), said);
     }
 }
 
@@ -54,35 +51,29 @@ fn answers_that_cannot_be() {
         "echo refused; echo refused 1 2 3".into(),
         "echo load 4 10; echo refused 20; echo cells OK; echo output OK".into(),
     ];
-    for (case, script) in answers.iter().enumerate() {
-        let folder = folder(&format!("answers-{case}"));
-        stand_in(&folder, "calls", script);
-        let found = run_with(&folder, &["plan", &example("chain-from-rows.txt")]);
+    for script in &answers {
+        let found = run_by_script(script, &["plan", &example("chain-from-rows.txt")]);
         is_told(&found, 3, "", script);
     }
 }
 
 #[test]
 fn a_program_that_says_much_is_heard_out() {
-    let folder = folder("much");
-    for name in ["plan", "calls"] {
-        let real = root().join("target/bin").join(name);
-        let script = format!("head -c 1000000 /dev/zero >&2; exec '{}'", real.display());
-        stand_in(&folder, name, &script);
-    }
-    for example_name in ["q", "chain-from-rows"] {
-        let found = run_with(&folder, &["plan", &example(&format!("{example_name}.txt"))]);
+    let real = root().join("target/bin");
+    let real = format!("'{}'/\"${{0##*/}}\"", real.display());
+    let script = format!("head -c 1000000 /dev/zero >&2; exec {real}");
+    for name in ["q.txt", "chain-from-rows.txt"] {
+        let found = run_by_script(&script, &["plan", &example(name)]);
         assert_eq!((found.code, found.said.len()), (0, 1_000_000));
-        held_to(&format!("plan-{example_name}.txt"), &found.text());
+        held_to(&format!("plan-{name}"), &found.text());
     }
 }
 
 /// It has the tool's standard error, so a run that left it behind would not be over.
 #[test]
 fn a_program_that_does_not_end_is_ended() {
-    let folder = folder("stays");
-    stand_in(&folder, "calls", "echo nonsense; exec sleep 60");
     let began = Instant::now();
-    is_told(&run_with(&folder, &["plan", &example("chain-from-rows.txt")]), 3, "nonsense", "stays");
+    let words = ["plan", &example("chain-from-rows.txt")];
+    is_told(&run_by_script("echo nonsense; exec sleep 60", &words), 3, "nonsense", "it stays");
     assert!(began.elapsed() < Duration::from_secs(30));
 }

@@ -3,31 +3,15 @@
 mod common;
 
 use std::fs;
-use std::path::{Path, PathBuf};
 
-use common::{example, held_to, run, run_on, Run};
+use common::examples::{self, EXAMPLES};
+use common::{example, held_to, run, run_on, scratch, texts, Run};
 use reference::encode;
 use reference::generate::queries::Extent;
-use reference::generate::rows;
 use reference::names::Names;
 use reference::random::Random;
 use reference::stated::{Form, Stated};
 use reference::text;
-
-/// A text example, the ending of its file, and what `pack` says of it.
-const EXAMPLES: [(&str, &str, &str); 6] = [
-    ("q", "query", "a file for load\n"),
-    ("chain-of-five", "query", "a file for load\n"),
-    ("longest-plan", "query", "a file for load\n"),
-    ("star-of-nine", "query", "a file for load\n"),
-    ("two-indexes", "query", "a file for load\n"),
-    ("chain-from-rows", "rows", "a file for load from rows\n"),
-];
-
-/// A file that no other test has.
-fn scratch(name: &str) -> PathBuf {
-    Path::new(env!("CARGO_TARGET_TMPDIR")).join(name)
-}
 
 fn refused(run: &Run, code: i32, said: &str) {
     assert_eq!((run.code, run.printed.len()), (code, 0), "{}", run.said);
@@ -37,41 +21,37 @@ fn refused(run: &Run, code: i32, said: &str) {
 }
 
 #[test]
-fn every_example_packs_to_its_file() {
-    for (name, ending, said) in EXAMPLES {
-        let packed = run(&["pack", &example(&format!("{name}.txt"))]);
-        let file = fs::read(example(&format!("{name}.{ending}"))).expect("the example");
+fn every_example_packs_to_its_file_and_back() {
+    for name in EXAMPLES {
+        let words = examples::packed(name);
+        let packed = run(&["pack", &examples::text(name)]);
+        let file = fs::read(&words[0]).expect("the example");
         assert!(packed.printed == file, "{name}");
+        let said = ["a file for load\n", "a file for load from rows\n"][words.len() - 1];
         assert_eq!((packed.code, packed.said.as_str()), (0, said), "{name}");
-    }
-}
-
-#[test]
-fn every_example_unpacks_to_a_text_that_packs_to_it() {
-    for (name, ending, _) in EXAMPLES {
-        let path = example(&format!("{name}.{ending}"));
-        let file = fs::read(&path).expect("the example");
-        let words = ["unpack", &path, "--rows"];
-        let words = if ending == "rows" { &words[..] } else { &words[..2] };
-        let unpacked = run(words);
+        let unpacked = run(&[vec!["unpack".into()], words].concat());
         assert_eq!((unpacked.code, unpacked.said.as_str()), (0, ""), "{name}");
-        assert!(run_on(&["pack", "-"], &unpacked.printed).printed == file, "{name}");
+        assert_eq!(run_on(&["pack", "-"], &unpacked.printed), packed, "{name}");
         held_to(&format!("unpack-{name}.txt"), &unpacked.text());
     }
 }
 
+fn named(seed: u64, case: u64, form: Form) -> (Stated, Names) {
+    texts::random_query(&mut Random::for_case(seed, case), &Extent::full(), form)
+}
+
 #[test]
-fn random_queries_there_and_back() {
-    for case in 0..40 {
-        let mut random = Random::for_case(75, case);
-        let form = random.pick(&Form::ALL);
-        let stated = rows::stated(&mut random, &Extent::full(), form);
-        let file = encode::encode_stated(&stated);
-        let words =
-            if form == Form::Rows { &["unpack", "-", "--rows"][..] } else { &["unpack", "-"] };
-        let unpacked = run_on(words, &file);
-        assert_eq!(unpacked.text(), text::print(&stated, &Names::default()));
-        assert!(run_on(&["pack", "-"], &unpacked.printed).printed == file);
+fn random_queries_packed_unpacked_and_packed_again() {
+    for case in 0..400 {
+        let form = Form::ALL[(case % 2) as usize];
+        let (stated, names) = named(75, case, form);
+        let packed = run_on(&["pack", "-"], text::print(&stated, &names).as_bytes());
+        assert_eq!(packed.printed, encode::encode_stated(&stated), "case {case}");
+        let words = ["unpack", "-", "--rows"];
+        let words = if form == Form::Rows { &words[..] } else { &words[..2] };
+        let unpacked = run_on(words, &packed.printed);
+        assert_eq!(unpacked.text(), text::print(&stated, &Names::default()), "case {case}");
+        assert_eq!(run_on(&["pack", "-"], &unpacked.printed), packed, "case {case}");
     }
 }
 
@@ -87,13 +67,19 @@ fn sizes_are_worked_out() {
     assert_eq!(by_sizes, by_rows);
 }
 
+/// A text keeps its names, and packs to the file with the model's sizes.
 #[test]
 fn random_sizes_are_the_model_s() {
-    for case in 0..20 {
-        let stated = rows::stated(&mut Random::for_case(76, case), &Extent::full(), Form::Rows);
-        let printed = run_on(&["sizes", "-", "--rows"], &encode::encode_stated(&stated)).text();
+    for case in 0..100 {
+        let (stated, names) = named(76, case, Form::Rows);
+        let of_text = run_on(&["sizes", "-"], text::print(&stated, &names).as_bytes());
+        let of_file = run_on(&["sizes", "-", "--rows"], &encode::encode_stated(&stated));
         let with_sizes = Stated::from(stated.query);
-        assert_eq!(printed, text::print(&with_sizes, &Names::default()));
+        assert_eq!(of_text.text(), text::print(&with_sizes, &names), "case {case}");
+        assert_eq!(of_file.text(), text::print(&with_sizes, &Names::default()), "case {case}");
+        let packed = run_on(&["pack", "-"], &of_text.printed);
+        assert_eq!(packed.said, "a file for load\n", "case {case}");
+        assert_eq!(packed.printed, encode::encode_stated(&with_sizes), "case {case}");
     }
 }
 
@@ -106,8 +92,7 @@ fn what_has_its_sizes_is_refused() {
 
 #[test]
 fn a_file_of_its_own() {
-    let [packed, unpacked, sizes] = ["packed", "unpacked", "sizes"]
-        .map(|name| scratch(name).to_str().expect("a path in UTF-8").to_string());
+    let [packed, unpacked, sizes] = ["packed", "unpacked", "sizes"].map(scratch);
     let q = example("q.query");
     let run_to = |words: &[&str], out: &str| {
         let run = run(&[words, &["-o", out]].concat());
@@ -127,20 +112,10 @@ fn a_file_of_its_own() {
 }
 
 #[test]
-fn what_cannot_be_written_is_a_fault() {
-    let nowhere = scratch("no-such-folder").join("out").to_str().expect("UTF-8").to_string();
-    for words in [["pack", "q.txt"], ["unpack", "q.query"], ["sizes", "chain-from-rows.txt"]] {
-        let run = run(&[words[0], &example(words[1]), "-o", &nowhere]);
-        assert_eq!((run.code, run.printed.len()), (3, 0), "{words:?}");
-        assert!(run.said.contains(" was not written: "), "{}", run.said);
-    }
-}
-
-#[test]
 fn what_was_read_is_not_written_over() {
     for words in [["pack", "q.txt"], ["unpack", "q.query"], ["sizes", "chain-from-rows.txt"]] {
         let before = fs::read(example(words[1])).expect("the example");
-        let own = scratch(&format!("own-{}", words[1])).to_str().expect("UTF-8").to_string();
+        let own = scratch(&format!("own-{}", words[1]));
         fs::write(&own, &before).expect("it is written");
         let linked = format!("{own}-linked");
         let _ = fs::remove_file(&linked);
@@ -154,24 +129,11 @@ fn what_was_read_is_not_written_over() {
 }
 
 #[test]
-fn usage() {
+fn each_takes_its_own_kind() {
     let [text, file] = ["q.txt", "q.query"].map(example);
     refused(&run(&["pack", &file]), 2, "q.query is packed already");
     refused(&run(&["unpack", &text]), 2, "q.txt is a text already");
-    refused(&run(&["unpack", &text, "-o"]), 2, "-o needs a value");
     refused(&run(&["pack", &text, "--rows"]), 2, "no option --rows");
-    refused(&run(&["unpack", &file, "-o", "a", "-o", "b"]), 2, "-o is there twice");
-    refused(
-        &run(&["sizes", "--rows", &text]),
-        2,
-        "--rows is for a packed file, and this is a text",
-    );
-    for name in ["pack", "unpack", "sizes", "room"] {
-        refused(&run(&[name]), 2, "the FILE is missing");
-        refused(&run(&[name, &file, &file]), 2, "is one word too many");
-        assert_eq!(run(&[name, "/no/such/file"]).code, 2);
-        assert_eq!(run(&[name, "/"]).code, 2);
-    }
 }
 
 #[test]

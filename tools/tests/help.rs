@@ -1,12 +1,11 @@
 //! What `--help` tells of every subcommand, and that the manual page tells the same.
 
 mod common;
-mod told;
 
 use std::fs;
 
+use common::subcommands::{is_told, SUBCOMMANDS};
 use common::{root, run};
-use told::{is_told, SUBCOMMANDS};
 
 /// The help of a subcommand, however it is asked for.
 fn help(name: &str) -> String {

@@ -1,27 +1,22 @@
 //! Files that are not there, can't be read or are no query: told by their names, never a panic.
 
 mod common;
-mod told;
 
 use std::fs::{self, File, Permissions};
 use std::os::unix::fs::PermissionsExt;
 use std::process::Command;
 
-use common::{example, run, run_on, tool};
-use told::{ended, is_told, run_all, words, SUBCOMMANDS};
+use common::subcommands::{is_told, words, SUBCOMMANDS};
+use common::{example, run, run_of, run_on, scratch, tool};
 
 /// Every subcommand on this file.
 fn all_told(file: &str, code: i32, said: &str) {
     for (name, _) in SUBCOMMANDS {
-        let found = run_all(&words(name, &[file]));
+        let found = run(&words(name, &[file]));
         is_told(&found, code, &format!("{file}: {said}"), name);
     }
     let as_plan = run(&["check", &example("q.txt"), file]);
     is_told(&as_plan, code, &format!("{file}: {said}"), "as a plan");
-}
-
-fn scratch(name: &str) -> String {
-    format!("{}/inputs-{name}", env!("CARGO_TARGET_TMPDIR"))
 }
 
 #[test]
@@ -88,7 +83,7 @@ fn a_long_packed_file() {
         for name in ["plan", "explain", "draw", "check", "whatif", "unpack"] {
             for rows in [&[][..], &["--rows"]] {
                 let line = words(name, &[&[&file[..]], rows].concat());
-                is_told(&run_all(&line), 1, "refused 2", &format!("{line:?}"));
+                is_told(&run(&line), 1, "refused 2", &format!("{line:?}"));
             }
         }
         fs::write(&file, vec![1; length]).expect("it is written");
@@ -101,11 +96,11 @@ fn a_long_packed_file() {
 fn standard_input_with_nothing_in_it() {
     for (name, _) in SUBCOMMANDS {
         let words = words(name, &["-"]);
-        let on_nothing = run_on(&words.iter().map(String::as_str).collect::<Vec<_>>(), b"");
+        let on_nothing = run_on(&words, b"");
         is_told(&on_nothing, 1, "", name);
         let mut closing = Command::new("sh");
         closing.args(["-c", "exec \"$0\" \"$@\" <&-"]).arg(tool().get_program()).args(&words);
-        is_told(&ended(&mut closing), 1, "", name);
+        is_told(&run_of(&mut closing), 1, "", name);
     }
 }
 
@@ -113,7 +108,7 @@ fn standard_input_with_nothing_in_it() {
 fn standard_input_without_end() {
     for (name, _) in SUBCOMMANDS {
         let zeros = File::open("/dev/zero").expect("/dev/zero");
-        let found = ended(tool().args(words(name, &["-"])).stdin(zeros));
+        let found = run_of(tool().args(words(name, &["-"])).stdin(zeros));
         is_told(&found, 1, "standard input: over 1048576 bytes", name);
     }
 }

@@ -1,8 +1,8 @@
 //! How far a line's price may move: held to the last unit by the model, which searches nothing.
 
 mod common;
-mod proved;
 
+use common::proved;
 use fanchuki::proved::calls::Solved;
 use fanchuki::proved::loaded::Loaded;
 use fanchuki::whatif::margins::{self, Margins};
@@ -10,7 +10,6 @@ use reference::check;
 use reference::generate::queries::{self, Extent};
 use reference::limits::{MOST_FIXED, MOST_RATE};
 use reference::method::Method;
-use reference::names::Names;
 use reference::query::{Line, Query};
 use reference::random::Random;
 use reference::solve;
@@ -111,7 +110,7 @@ fn hold_margins(loaded: &mut Loaded, met: &mut [u64; 5]) {
 /// Hundreds of queries of all shapes, on one run of the proved program.
 #[test]
 fn margins_hold_to_the_last_unit() {
-    let mut calls = proved::start();
+    let mut loaded = proved::running();
     let mut met = [0; 5];
     for case in 0..600 {
         let mut random = Random::for_case(74, case);
@@ -121,9 +120,8 @@ fn margins_hold_to_the_last_unit() {
             0 => queries::query(&mut random, &extent),
             _ => queries::tied(&mut random, &extent),
         };
-        let mut loaded = proved::load(calls, query, Names::default());
+        proved::put(&mut loaded, query.into());
         hold_margins(&mut loaded, &mut met);
-        calls = loaded.calls;
     }
     assert!(met.iter().all(|&count| count > 10), "{met:?}");
 }
@@ -131,11 +129,11 @@ fn margins_hold_to_the_last_unit() {
 /// Every rate from the least to the limit, of some line of small queries.
 #[test]
 fn a_scan_of_all_rates() {
-    let mut calls = proved::start();
+    let mut loaded = proved::running();
     for case in 0..30 {
         let mut random = Random::for_case(81, case);
         let query = queries::query(&mut random, &Extent { relations: 2..=4, sites: 2..=3 });
-        let mut loaded = proved::load(calls, query.clone(), Names::default());
+        proved::put(&mut loaded, query.clone().into());
         let ends: Vec<(usize, usize)> = Query::line_ends(query.sites.len()).collect();
         let ends = random.pick(&ends);
         if let Some((_, today)) = solved(&query) {
@@ -152,6 +150,5 @@ fn a_scan_of_all_rates() {
                 assert_eq!(holds, found.is_some_and(|found| value <= found), "{value}, {found:?}");
             }
         }
-        calls = loaded.calls;
     }
 }

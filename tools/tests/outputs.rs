@@ -1,45 +1,19 @@
 //! Output that can't be written: every subcommand ends with 3 and says so.
 
 mod common;
-mod told;
 
 use std::fs::{self, File, OpenOptions};
 use std::io;
 use std::os::unix::fs::symlink;
-use std::process::{Command, Stdio};
-use std::sync::OnceLock;
+use std::process::Command;
 
-use common::{example, tool, Run};
-use told::{ended, is_told, run_all};
+use common::subcommands::{self, is_told};
+use common::{run, run_of, scratch, tool, Run};
 
-/// Q's plan in bytes, as a file.
-fn plan_of_q() -> String {
-    static PLAN: OnceLock<String> = OnceLock::new();
-    let write = || {
-        let path = format!("{}/outputs-q.plan", env!("CARGO_TARGET_TMPDIR"));
-        fs::write(&path, [4, 1, 0, 1, 1, 2, 0, 3, 0]).expect("the plan is written");
-        path
-    };
-    PLAN.get_or_init(write).clone()
-}
-
-/// A command line of each subcommand that prints something and ends with 0.
+/// Those of the subcommands, and of help.
 fn command_lines() -> Vec<Vec<String>> {
-    let q = example("q.txt");
-    let lines: [&[&str]; 11] = [
-        &["plan", &q],
-        &["explain", &q],
-        &["draw", &q],
-        &["check", &q, &plan_of_q()],
-        &["whatif", &q, "--line", "1", "0", "fixed", "2"],
-        &["pack", &q],
-        &["unpack", &example("q.query")],
-        &["sizes", &example("chain-from-rows.txt")],
-        &["room", &example("draft.txt")],
-        &["--help"],
-        &["help", "plan"],
-    ];
-    lines.iter().map(|line| line.iter().map(|word| word.to_string()).collect()).collect()
+    let help = [vec!["--help".into()], vec!["help".into(), "plan".into()]];
+    subcommands::command_lines().into_iter().chain(help).collect()
 }
 
 /// By sh, which closes and opens descriptors as this says.
@@ -49,7 +23,7 @@ fn redirected(words: &[String], redirections: &str) -> Run {
     command.args(["-c", &format!("exec \"$0\" \"$@\" {redirections}")]);
     command.arg(told.get_program()).args(words);
     command.envs(told.get_envs().filter_map(|(name, value)| Some((name, value?))));
-    ended(&mut command)
+    run_of(&mut command)
 }
 
 /// One line, and it gives the reason.
@@ -61,7 +35,7 @@ fn is_not_written(run: &Run, reason: &str, words: &[String]) {
 #[test]
 fn an_output_that_takes_all_is_written() {
     for words in command_lines() {
-        let ended = run_all(&words);
+        let ended = run(&words);
         assert_eq!(ended.code, 0, "{words:?}: {}", ended.said);
         assert!(!ended.printed.is_empty(), "{words:?}");
         assert_eq!(redirected(&words, ""), ended, "{words:?}");
@@ -72,7 +46,7 @@ fn an_output_that_takes_all_is_written() {
 fn a_full_device_is_told() {
     for words in command_lines() {
         let full = OpenOptions::new().write(true).open("/dev/full").expect("/dev/full");
-        let found = ended(tool().args(&words).stdout(full).stderr(Stdio::piped()));
+        let found = run_of(tool().args(&words).stdout(full));
         is_not_written(&found, "No space left", &words);
     }
 }
@@ -90,7 +64,7 @@ fn a_closed_output_is_told() {
 fn an_output_for_reading_only_is_told() {
     for words in command_lines() {
         let null = File::open("/dev/null").expect("/dev/null");
-        let found = ended(tool().args(&words).stdout(null).stderr(Stdio::piped()));
+        let found = run_of(tool().args(&words).stdout(null));
         is_not_written(&found, "Bad file descriptor", &words);
     }
 }
@@ -100,7 +74,7 @@ fn a_pipe_that_nobody_reads_is_told() {
     for words in command_lines() {
         let (reader, writer) = io::pipe().expect("a pipe");
         drop(reader);
-        let found = ended(tool().args(&words).stdout(writer).stderr(Stdio::piped()));
+        let found = run_of(tool().args(&words).stdout(writer));
         is_not_written(&found, "Broken pipe", &words);
     }
 }
@@ -123,13 +97,13 @@ fn the_exit_code_is_left_where_nothing_can_be_said() {
 
 #[test]
 fn a_file_that_is_not_written_is_told() {
-    let full = format!("{}/full.dot", env!("CARGO_TARGET_TMPDIR"));
+    let full = scratch("full.dot");
     let _ = fs::remove_file(&full);
     symlink("/dev/full", &full).expect("the link is made");
     for words in command_lines() {
         let is_written = ["draw", "pack", "unpack", "sizes"].contains(&words[0].as_str());
         for file in [&full, "/no/such/folder/plan.dot"].iter().filter(|_| is_written) {
-            let found = run_all(&[&words[..], &["-o".into(), file.to_string()]].concat());
+            let found = run(&[&words[..], &["-o".into(), file.to_string()]].concat());
             is_told(&found, 3, &format!("{file} was not written: "), &words[0]);
         }
     }

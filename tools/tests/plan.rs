@@ -1,25 +1,22 @@
-//! `fanchuki plan`, over the examples.
+//! `fanchuki plan`, over the examples and by names.
 
 mod common;
 
-use common::{example, held_to, run};
+use common::texts::q;
+use common::{example, examples, run, run_on};
 
 #[test]
 fn every_example_has_its_listing() {
-    for name in ["q", "chain-of-five", "longest-plan", "star-of-nine", "two-indexes"] {
-        let of_text = run(&["plan", &example(&format!("{name}.txt"))]);
-        let of_file = run(&["plan", &example(&format!("{name}.query"))]);
-        assert_eq!((of_text.code, of_text.said.as_str()), (0, ""), "{name}");
-        assert_eq!(of_text, of_file, "{name}");
-        held_to(&format!("plan-{name}.txt"), &of_text.text());
-    }
+    examples::are_stored("plan", "txt");
 }
 
+/// A text with names plans as the same one with numbers does, by the names.
 #[test]
-fn rows_go_through_the_second_load() {
-    let of_text = run(&["plan", &example("chain-from-rows.txt")]);
-    let of_file = run(&["plan", "--rows", &example("chain-from-rows.rows")]);
-    assert_eq!(of_text.code, 0);
-    assert_eq!(of_text, of_file);
-    held_to("plan-chain-from-rows.txt", &of_text.text());
+fn names_are_listed() {
+    let by_numbers = run(&["plan", &example("q.txt")]);
+    let text = q().replace("sites 0 to 2", "sites a b c").replace("relation 0", "relation r");
+    let by_names = run_on(&["plan", "-"], text.as_bytes());
+    assert_eq!((by_names.code, by_names.said.as_str()), (0, ""));
+    let expected = by_numbers.text().replace("load 0", "load r").replace("send 0", "send a");
+    assert_eq!(by_names.text(), expected);
 }

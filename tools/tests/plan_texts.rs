@@ -140,11 +140,15 @@ fn steps_of(random: &mut Random, query: &Query) -> Vec<Step> {
     steps
 }
 
-/// A line of a million letters takes no time that anybody notices.
+/// A line of a million letters takes no time that anybody notices, and little room.
 #[test]
 fn a_long_line() {
-    let text = format!("load 0\n{}\n", "1, ".repeat(300_000));
-    let faults = plan_text::parse(&text, &Names::default()).expect_err("a fault");
-    assert_eq!(faults.len(), 1);
-    assert_eq!((faults[0].place.line, faults[0].place.column), (2, 7));
+    for (line, column) in [("1, ", 7), ("a", 1), ("1", 1), ("load ", 6), ("\u{7f}", 1)] {
+        let text = format!("load 0\n{}\n", line.repeat(300_000));
+        let faults = plan_text::parse(&text, &Names::default()).expect_err("a fault");
+        assert_eq!(faults.len(), 1, "{line}");
+        assert_eq!((faults[0].place.line, faults[0].place.column), (2, column), "{line}");
+        let reason = &faults[0].reason;
+        assert!(reason.len() < 400 && !reason.contains('\u{7f}'), "{line}: {reason}");
+    }
 }

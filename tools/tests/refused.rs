@@ -2,8 +2,8 @@
 //! load.
 
 mod common;
-mod proved;
 
+use common::proved;
 use common::{example, held_to, run, run_on};
 use fanchuki::given::Given;
 use fanchuki::proved::calls::Calls;

@@ -1,9 +1,9 @@
 //! `fanchuki room`: the figures are the proved program's, and a refusal has its words.
 
 mod common;
-mod fake;
 
-use common::{example, run, run_on, tool};
+use common::stand_in::{run_by_answers, run_by_script};
+use common::{example, run, run_on};
 use reference::encode;
 use reference::generate::queries::{self, Extent};
 use reference::names::Names;
@@ -28,16 +28,12 @@ fn refused(said: &str) -> (i32, String, String) {
 }
 
 fn room(input: &[u8]) -> (i32, String, String) {
-    let run = run_on(&["room", "-"], input);
-    (run.code, run.text(), run.said)
+    run_on(&["room", "-"], input).told()
 }
 
 #[test]
 fn the_examples() {
-    let told = |name: &str| {
-        let run = run(&["room", &example(name)]);
-        (run.code, run.text(), run.said)
-    };
+    let told = |name: &str| run(&["room", &example(name)]).told();
     assert_eq!(told("draft.txt"), figures(11, 33, 36));
     assert_eq!(told("q.txt"), figures(3, 9, 3));
     assert_eq!(told("q.query"), figures(3, 9, 3));
@@ -127,22 +123,17 @@ fn a_text_s_faults_are_told() {
 /// A program that ends after its answer, or without one.
 #[test]
 fn a_program_that_ends_is_a_fault() {
-    for calls in ["true", "exit 3", "kill -s SEGV $$", "printf 'room 11 33 36'"] {
-        let (code, printed, said) = fake::run(calls, &["room", &example("draft.txt")]);
-        assert_eq!((code, printed.as_str()), (3, ""), "{calls}: {said}");
+    for script in ["true", "exit 3", "kill -s SEGV $$", "printf 'room 11 33 36'"] {
+        let (code, printed, said) = run_by_script(script, &["room", &example("draft.txt")]).told();
+        assert_eq!((code, printed.as_str()), (3, ""), "{script}: {said}");
         assert!(said.starts_with("fanchuki: the program 'calls' "), "{said}");
     }
-    let mut command = tool();
-    command.env("FANCHUKI_PROGRAMS", "/no/such/folder").args(["room", &example("draft.txt")]);
-    assert_eq!(command.output().expect("the tool starts").status.code(), Some(3));
 }
 
 #[test]
 fn only_a_right_answer_is_taken() {
-    let answered = |line: &str| {
-        let calls = format!("echo '{line}'; exec cat >/dev/null");
-        fake::run(&calls, &["room", &example("draft.txt")])
-    };
+    let answered =
+        |line: &str| run_by_answers(&format!("{line}\n"), &["room", &example("draft.txt")]).told();
     assert_eq!(answered("room 11 33 36"), figures(11, 33, 36));
     for (line, said) in [
         ("room 11 33", "the program 'calls' answered 'room 11 33'"),

@@ -1,9 +1,9 @@
 //! One fault is told as one: nothing that only follows from it.
 
-mod texts;
+mod common;
 
+use common::texts::{by_rows, told, NAMED};
 use fanchuki::text::parse;
-use texts::{by_rows, told, NAMED};
 
 /// Every text that comes of the text by changing one word.
 fn changed(text: &str, change: impl Fn(&str) -> String) -> Vec<(String, String)> {

@@ -2,16 +2,15 @@
 //! whole query is wanted.
 
 mod common;
-mod texts;
 
 use std::fs;
 
+use common::texts::{self, told};
 use fanchuki::text::{draft, parse};
 use reference::generate::queries::{self, Extent};
 use reference::random::Random;
 use reference::room::{room, Draft, Figures};
 use reference::text::print;
-use texts::told;
 
 /// A chain of three at two sites.
 const BARE: &str = "sites 0 to 1

@@ -1,12 +1,11 @@
 //! Faulty texts with all that is told of each, stored in tests/stored/text-faults.txt.
 
 mod common;
-mod texts;
 
 use std::fmt::Write;
 
+use common::texts::{by_rows, told, NAMED};
 use common::{held_to, run_on};
-use texts::{by_rows, told, NAMED};
 
 /// Replacements in a text, each a fault or several.
 const BY_SIZES: [(&str, &str); 74] = [

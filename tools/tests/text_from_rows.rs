@@ -1,17 +1,13 @@
 //! The text form of a query with rows and divisors: there and back, and what is refused.
 
 mod common;
-mod texts;
 
-use std::fs;
-
+use common::texts::{by_rows, taken, told};
 use fanchuki::text::parse;
-use reference::encode::encode_stated;
 use reference::names::Names;
 use reference::pinned_rows;
 use reference::stated::Form;
 use reference::text::print;
-use texts::{by_rows, taken, told};
 
 const Q: &str = "sites 0 to 2 may join, fixed 2, rate 1
 relation 0 at site 0
@@ -31,27 +27,12 @@ fn there_and_back() {
 }
 
 #[test]
-fn rows_and_divisors_stand_in_any_order() {
-    let turned = "divisor of join 0 is 16\nrows of 1 are 4\nrows of 0 are 10\n";
-    let text = Q.replace("rows of 0 are 10\nrows of 1 are 4\ndivisor of join 0 is 16\n", "");
-    assert_eq!(taken(&[turned, &text].concat()).stated, pinned_rows::q());
-}
-
-#[test]
 fn rows_by_names() {
     let stated = taken(&by_rows()).stated;
     assert_eq!(stated.form(), Form::Rows);
     assert_eq!(stated.counts.map(|counts| counts.rows), Some(vec![10, 4, 7]));
     let sizes: Vec<u64> = stated.query.sizes.iter().map(|size| size.0).collect();
     assert_eq!(sizes, [10, 4, 3, 7, 4, 2]);
-}
-
-#[test]
-fn the_example() {
-    let path = |ending| common::example(&format!("chain-from-rows.{ending}"));
-    let stated = taken(&fs::read_to_string(path("txt")).unwrap()).stated;
-    assert_eq!(stated.form(), Form::Rows);
-    assert_eq!(fs::read(path("rows")).unwrap(), encode_stated(&stated));
 }
 
 /// Q's text with one statement replaced.
@@ -87,17 +68,4 @@ fn sizes_beside_rows_tell_their_place() {
     assert!(fault("rows of 0 are 10", divisor).starts_with(&after_sizes));
     let size = "divisor of join 0 is 16\nsize of 0 is 10";
     assert!(fault("rows of 0 are 10", size).starts_with(&after_rows(6)));
-}
-
-#[test]
-fn faults_of_the_whole() {
-    assert_eq!(
-        fault("rows of 1 are 4\n", ""),
-        "5:1: no rows of relation 1; rows stand in line 5\n"
-    );
-    let said = "8:19: no divisor of join 0; expected 'divisor of join E is N'\n";
-    assert_eq!(fault("divisor of join 0 is 16\n", ""), said);
-    let said = "6:9: no relation 2; the relations are 0 to 1\n";
-    assert_eq!(fault("rows of 1 are 4", "rows of 2 are 4"), said);
-    assert_eq!(fault("of join 0 is", "of join 1 is"), "7:17: no join 1; the one join is 0\n");
 }

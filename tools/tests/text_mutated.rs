@@ -2,8 +2,8 @@
 //! taken packs to a file that the load takes.
 
 mod common;
-mod texts;
 
+use common::damage::{damaged, ODD};
 use common::run_on;
 use fanchuki::failure::Failure;
 use fanchuki::given::is_packed;
@@ -11,7 +11,6 @@ use fanchuki::text::{self, Fault};
 use reference::decode::decode;
 use reference::encode::encode_stated;
 use reference::random::Random;
-use texts::damage::{damaged, ODD};
 
 const CASES: u64 = 12_000;
 

@@ -1,12 +1,8 @@
 //! Sites and relations by their names.
 
 mod common;
-mod texts;
 
-use std::fs;
-
-use common::{run, run_on};
-use texts::{taken, NAMED};
+use common::texts::{taken, NAMED};
 
 /// A site or a relation with a name can be called by its number, and 'site' may be left out.
 #[test]
@@ -42,17 +38,4 @@ fn a_list_declares_several() {
     assert_eq!(taken(&many.replace("at west", "at my")).stated, taken(&list).stated);
     let mixed = list.replace("north, south west", "north 1 west").replace("at south", "at 1");
     assert_eq!(taken(&mixed).stated, taken(&list).stated);
-}
-
-/// A text with names plans as the same one with numbers does, by the names.
-#[test]
-fn the_tool_plans_by_names() {
-    let path = common::example("q.txt");
-    let by_numbers = run(&["plan", &path]);
-    let text = fs::read_to_string(path).unwrap();
-    let text = text.replace("sites 0 to 2", "sites a b c").replace("relation 0", "relation r");
-    let by_names = run_on(&["plan", "-"], text.as_bytes());
-    assert_eq!((by_names.code, by_names.said.as_str()), (0, ""));
-    let expected = by_numbers.text().replace("load 0", "load r").replace("send 0", "send a");
-    assert_eq!(by_names.text(), expected);
 }

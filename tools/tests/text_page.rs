@@ -1,15 +1,14 @@
 //! What docs/TEXT-FORM.md shows is so.
 
 mod common;
-mod texts;
 
 use std::fs;
 
+use common::texts::taken;
 use fanchuki::failure::Failure;
 use fanchuki::text::{draft, parse, refused};
 use reference::pinned;
 use reference::pinned_rows;
-use texts::taken;
 
 /// The blocks of the page that are fenced, in order.
 fn blocks() -> Vec<String> {

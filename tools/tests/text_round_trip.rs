@@ -1,14 +1,15 @@
 //! Pack, unpack, pack: a query's text gives its file, and the file's text the same file again.
 
-mod texts;
+mod common;
 
+use std::fs;
 use std::time::{Duration, Instant};
 
+use common::{example, texts};
 use fanchuki::text::parse;
 use reference::decode::decode;
 use reference::encode::encode_stated;
 use reference::generate::queries::Extent;
-use reference::generate::rows;
 use reference::names::Names;
 use reference::random::Random;
 use reference::stated::{Form, Stated};
@@ -16,14 +17,14 @@ use reference::text::print;
 
 const CASES: u64 = 3_000;
 
-fn random_query(random: &mut Random, case: u64) -> Stated {
-    rows::stated(random, &Extent::full(), Form::ALL[(case % 2) as usize])
+fn random_query(random: &mut Random, case: u64) -> (Stated, Names) {
+    texts::random_query(random, &Extent::full(), Form::ALL[(case % 2) as usize])
 }
 
 #[test]
 fn without_names() {
     for case in 0..CASES {
-        let stated = random_query(&mut Random::for_case(61, case), case);
+        let (stated, _) = random_query(&mut Random::for_case(61, case), case);
         let packed = encode_stated(&stated);
         let unpacked = print(&decode(&packed, stated.form()).unwrap(), &Names::default());
         let again = texts::taken(&unpacked);
@@ -36,8 +37,7 @@ fn without_names() {
 fn with_names() {
     for case in 0..CASES {
         let random = &mut Random::for_case(62, case);
-        let stated = random_query(random, case);
-        let names = texts::names(random, &stated.query);
+        let (stated, names) = random_query(random, case);
         let text = print(&stated, &names);
         let named = texts::taken(&text);
         assert_eq!(encode_stated(&named.stated), encode_stated(&stated), "case {case}:\n{text}");
@@ -51,8 +51,7 @@ fn with_names() {
 fn in_any_order() {
     for case in 0..1_000 {
         let random = &mut Random::for_case(63, case);
-        let stated = random_query(random, case);
-        let names = texts::names(random, &stated.query);
+        let (stated, names) = random_query(random, case);
         let text = print(&stated, &names);
         let kind =
             |line: &str| ["site", "rela", "join"].iter().position(|&kind| line.starts_with(kind));
@@ -71,8 +70,7 @@ fn in_any_order() {
 
 #[test]
 fn the_star_of_nine_is_read_in_no_time() {
-    let path = format!("{}/../examples/star-of-nine.txt", env!("CARGO_MANIFEST_DIR"));
-    let text = std::fs::read_to_string(path).unwrap();
+    let text = fs::read_to_string(example("star-of-nine.txt")).unwrap();
     let timed = |_| {
         let begun = Instant::now();
         assert!(parse(&text).is_ok());

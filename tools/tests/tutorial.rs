@@ -8,7 +8,7 @@ use std::fs;
 use std::path::{Path, PathBuf};
 use std::process::Command;
 
-use common::{root, tool};
+use common::{empty_folder, root, tool};
 
 /// A fenced block of the page: the words behind its fence, and its lines.
 struct Block {
@@ -19,9 +19,7 @@ struct Block {
 #[test]
 fn the_page_shows_what_happens() {
     let page = fs::read_to_string(root().join("docs/TUTORIAL.md")).expect("the page is there");
-    let folder = Path::new(env!("CARGO_TARGET_TMPDIR")).join("tutorial");
-    let _ = fs::remove_dir_all(&folder);
-    fs::create_dir_all(&folder).expect("a folder to follow it in");
+    let folder = empty_folder("tutorial");
     let mut commands = 0;
     for block in blocks(&page) {
         let kind: Vec<&str> = block.kind.iter().map(String::as_str).collect();

@@ -1,14 +1,13 @@
 //! Command lines that can't be carried out: 2, and the reason.
 
 mod common;
-mod told;
 
 use std::ffi::OsString;
 use std::fs;
 use std::os::unix::ffi::OsStringExt;
 
-use common::{example, run, run_on, tool, Run};
-use told::{ended, is_told, run_all, words, SUBCOMMANDS};
+use common::subcommands::{is_told, words, SUBCOMMANDS};
+use common::{example, run, run_of, run_on, scratch, tool, Run};
 
 const NOT_PACKED: &str = "--rows is for a packed file, and this is a text";
 
@@ -18,7 +17,7 @@ fn is_usage(run: &Run, said: &str, what: &str) {
 
 #[test]
 fn a_subcommand_is_one_of_the_nine() {
-    is_usage(&run(&[]), "no subcommand\nusage: fanchuki ", "alone");
+    is_usage(&run::<&str>(&[]), "no subcommand\nusage: fanchuki ", "alone");
     for word in ["xyz", "", "plans-of-all", "-", "p"] {
         is_usage(&run(&[word]), &format!("no subcommand '{word}'\nusage: fanchuki "), word);
         is_usage(&run(&["help", word]), &format!("no subcommand '{word}'"), word);
@@ -51,7 +50,7 @@ fn unknown_options_are_told() {
     for (name, _) in SUBCOMMANDS {
         for option in ["--nonsense", "-x", "--rows=1", "--ROWS"] {
             let words = words(name, &[&example("q.txt"), option]);
-            let ended = run_all(&words);
+            let ended = run(&words);
             is_usage(&ended, option, &format!("{words:?}"));
             let last = format!("\n'fanchuki {name} --help' tells more\n");
             assert!(ended.said.ends_with(&last), "{words:?}: {}", ended.said);
@@ -62,36 +61,35 @@ fn unknown_options_are_told() {
 #[test]
 fn missing_words_are_told() {
     for (name, _) in SUBCOMMANDS {
-        is_usage(&run_all(&words(name, &[])), "missing", name);
-        is_usage(&run(&[name]), "", name);
-        is_usage(&run(&[name, "--"]), "", name);
+        is_usage(&run(&words(name, &[])), "missing", name);
+        let said = if name == "whatif" { "no --line is named" } else { "the FILE " };
+        is_usage(&run(&[name]), said, name);
+        is_usage(&run(&[name, "--"]), said, name);
     }
     let q = example("q.txt");
-    for words in [&["draw", &q, "-o"][..], &["whatif", &q], &["whatif", &q, "--line"]] {
-        is_usage(&run(words), words.get(2).unwrap_or(&""), &format!("{words:?}"));
-    }
+    is_usage(&run(&["draw", &q, "-o"]), "-o needs a value", "draw -o");
 }
 
 #[test]
 fn words_too_many_are_told() {
     for (name, _) in SUBCOMMANDS {
         let q = example("q.txt");
-        is_usage(&run_all(&words(name, &[&q, &q, &q])), "q.txt", name);
+        is_usage(&run(&words(name, &[&q, &q, &q])), "q.txt' is one word too many", name);
     }
 }
 
 #[test]
 fn an_option_is_there_once() {
-    let out = format!("{}/twice.dot", env!("CARGO_TARGET_TMPDIR"));
+    let out = scratch("twice.dot");
     for (name, options) in SUBCOMMANDS {
         if options.contains(&"--rows") {
             let words = words(name, &["--rows", &example("chain-from-rows.rows"), "--rows"]);
-            is_usage(&run_all(&words), "--rows is there twice", name);
+            is_usage(&run(&words), "--rows is there twice", name);
         }
         if options.contains(&"-o") {
             let file = if name == "unpack" { "q.query" } else { "chain-from-rows.txt" };
             let words = words(name, &["-o", &out, &example(file), "-o", &out]);
-            is_usage(&run_all(&words), "-o is there twice", name);
+            is_usage(&run(&words), "-o is there twice", name);
         }
     }
     assert!(fs::metadata(&out).is_err(), "{out} was written");
@@ -99,11 +97,10 @@ fn an_option_is_there_once() {
 
 #[test]
 fn rows_are_not_sizes() {
-    for name in ["plan", "explain", "draw", "check", "whatif"] {
+    for name in ["plan", "explain", "draw", "check", "whatif", "sizes"] {
         let file = example("q.txt");
-        is_usage(&run_all(&words(name, &["--rows", &file])), NOT_PACKED, name);
+        is_usage(&run(&words(name, &["--rows", &file])), NOT_PACKED, name);
         let words = words(name, &["--rows", "-"]);
-        let words: Vec<&str> = words.iter().map(String::as_str).collect();
         let text = fs::read(&file).expect("the example");
         is_usage(&run_on(&words, &text), NOT_PACKED, name);
     }
@@ -120,12 +117,12 @@ fn behind_two_hyphens_every_word_is_a_file() {
 #[test]
 fn words_need_not_be_text() {
     let strange = |bytes: &[u8]| OsString::from_vec(bytes.to_vec());
-    is_usage(&ended(tool().arg(strange(b"pl\xffan"))), "no subcommand", "a subcommand");
+    is_usage(&run_of(tool().arg(strange(b"pl\xffan"))), "no subcommand", "a subcommand");
     for (name, _) in SUBCOMMANDS {
         let words = words(name, &["x"]);
-        let found = ended(tool().args(&words).arg(strange(b"--\xff")));
+        let found = run_of(tool().args(&words).arg(strange(b"--\xff")));
         is_usage(&found, "--\u{fffd}", name);
     }
-    let found = ended(tool().arg("plan").arg(strange(b"no\xfffile")));
+    let found = run_of(tool().arg("plan").arg(strange(b"no\xfffile")));
     is_usage(&found, "no\u{fffd}file: No such file", "a file");
 }

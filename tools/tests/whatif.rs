@@ -2,6 +2,7 @@
 
 mod common;
 
+use common::texts::q;
 use common::{example, held_to, run, run_on};
 use fanchuki::whatif::changes::Change;
 use reference::names::Names;
@@ -45,8 +46,7 @@ fn changes_of_the_other_examples_are_stored() {
 
 /// Q, with lines of its own behind it.
 fn q_with(lines: &str) -> String {
-    let q = std::fs::read_to_string(example("q.txt")).expect("the example");
-    format!("{q}{lines}")
+    q() + lines
 }
 
 #[test]

@@ -99,10 +99,9 @@ impl Walk<'_> {
         let mut reasons = Vec::new();
         let missing = sets::everything(self.query.relations.len()) & !last.set;
         if missing != 0 {
-            let each: Vec<String> =
-                sets::members(missing).map(|one| self.names.the_relation(one)).collect();
-            let are = if each.len() == 1 { "is" } else { "are" };
-            reasons.push(format!("{} {are} never loaded", wording::list(&each)));
+            let are = if sets::count(missing) == 1 { "is" } else { "are" };
+            let missing = wording::each_relation(self.names, missing);
+            reasons.push(format!("{missing} {are} never loaded"));
         }
         if last.site != self.query.delivery {
             let (last, delivery) =

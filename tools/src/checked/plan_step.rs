@@ -4,7 +4,8 @@ use reference::names::Names;
 
 use crate::near::did_you_mean;
 use crate::text::scan::Word;
-use crate::text::{is_number, quoted, Place};
+use crate::text::{is_number, Place};
+use crate::wording::{number, quoted};
 
 /// A reason, and where.
 pub type Wrong = (Place, String);
@@ -60,19 +61,19 @@ fn named(word: &Word, what: &str, names: &[Option<String>]) -> Result<u8, Wrong>
     }
     let known: Vec<&str> = names.iter().flatten().map(String::as_str).collect();
     let meant = did_you_mean(text, known.iter().copied());
-    let text = quoted(text);
+    let shown = quoted(text);
     Err((
         word.place,
         match (meant.is_empty(), known.is_empty()) {
-            (_, true) => format!("{text} is not a number"),
-            (true, false) => format!("no {what} {text}; there are {}", known.join(", ")),
-            (false, false) => format!("no {what} {text}{meant}"),
+            (_, true) => format!("{shown} is not a number"),
+            (true, false) => format!("no {what} {shown}; there are {}", known.join(", ")),
+            (false, false) => format!("no {what} {shown}{meant}"),
         },
     ))
 }
 
 /// A number as a plan's bytes have it.
 fn byte(word: &Word) -> Result<u8, Wrong> {
-    let above = || format!("{} is above {}, the most in a plan", quoted(word.text), u8::MAX);
-    word.text.parse().map_err(|_| (word.place, above()))
+    let above = format!("{} is above {}, the most in a plan", number(word.text), u8::MAX);
+    word.text.parse().map_err(|_| (word.place, above))
 }

@@ -6,8 +6,8 @@ use reference::query::{Line, Relation, Site};
 use crate::text::fault::{Faults, Place};
 use crate::text::once::Once;
 use crate::text::register::{Kind, Register};
+use crate::text::sizing::Sizing;
 use crate::text::statement::{Said, Statement, Terms, Which};
-use crate::text::told::Told;
 
 /// A join's relations with the places of the words for them.
 pub type Ends = [Option<(usize, Place)>; 2];
@@ -22,7 +22,7 @@ pub struct Gathered<'t> {
     pub joins: Vec<(usize, Place, Ends)>,
     /// The ends of the statements that are bare, as in a draft, and what each leaves out.
     pub bare: Vec<(Place, &'static str)>,
-    pub told: Told,
+    pub sizing: Sizing,
     pub every_line: Once<(), Line>,
     pub lines: Once<(usize, usize), Line>,
     pub delivery: Once<(), usize>,
@@ -40,7 +40,7 @@ pub fn gather<'t>(statements: &[Statement<'t>], faults: &mut Faults) -> Gathered
         relations: Vec::new(),
         joins: Vec::new(),
         bare: Vec::new(),
-        told: Told::new(),
+        sizing: Sizing::new(),
         every_line: Once::new(),
         lines: Once::new(),
         delivery: Once::new(),
@@ -75,11 +75,9 @@ impl<'t> Gathered<'t> {
                 }
                 numbers
             }
-            Said::Join { number: Some(number), .. } => {
-                register.declare_one(Kind::Join, Some(*number), place, faults).into_iter().collect()
-            }
-            Said::Join { number: None, .. } => {
-                register.declare(Kind::Join, &Which::Unread, place, faults)
+            Said::Join { number, .. } => {
+                let which = number.map_or(Which::Unread, |one| Which::List(vec![Some(one)]));
+                register.declare(Kind::Join, &which, place, faults)
             }
             Said::Unread(words) => {
                 register.leave_unread(words);

@@ -7,7 +7,7 @@ use reference::tree::Join;
 use crate::text::fault::Faults;
 use crate::text::gathered::{Ends, Gathered};
 use crate::text::register::Kind;
-use crate::text::vocabulary::listed;
+use crate::wording::{counted, each_relation};
 
 impl Gathered<'_> {
     /// The joins, which reach all relations; nothing where one is faulty, or a statement that
@@ -60,20 +60,16 @@ impl Gathered<'_> {
 
     fn reaches_all(&self, relations: usize, parts: &[Set], faults: &mut Faults) -> bool {
         let reached = parts.iter().copied().find(|&part| sets::holds(part, 0)).unwrap_or(0);
-        let beyond = sets::members(sets::everything(relations.min(MOST_RELATIONS)) & !reached);
-        let beyond: Vec<String> =
-            beyond.map(|relation| self.names.the_relation(relation)).collect();
-        if beyond.is_empty() {
+        let beyond = sets::everything(relations.min(MOST_RELATIONS)) & !reached;
+        if beyond == 0 {
             return true;
         }
         let place = self.joins.last().map_or(self.end, |&(_, place, _)| place);
-        let counted =
-            |count| if count == 1 { "1 join".to_string() } else { format!("{count} joins") };
         let reason = format!(
             "no join reaches {} from {}; {relations} relations need {}, not {}",
-            listed(&beyond, beyond.len()),
+            each_relation(&self.names, beyond),
             self.names.the_relation(0),
-            counted(relations - 1),
+            counted(relations - 1, "join"),
             self.joins.len(),
         );
         faults.tell(place, reason);

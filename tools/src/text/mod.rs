@@ -10,7 +10,6 @@ mod called;
 mod fault;
 mod gathered;
 mod joins;
-mod missing;
 mod once;
 mod ordered;
 mod read;
@@ -18,17 +17,14 @@ mod reading;
 mod refer;
 mod register;
 pub mod scan;
-mod shown;
+mod sizing;
 mod statement;
 mod terms;
-mod told;
-mod unknown;
 mod vocabulary;
 mod whole;
 
-pub use fault::{Fault, Faults, Place};
-pub use shown::{decoded, refused};
-pub use vocabulary::{is_name, is_number, quoted};
+pub use fault::{decoded, refused, Fault, Faults, Place};
+pub use vocabulary::{is_name, is_number};
 
 use reference::names::Names;
 use reference::room::Draft;

@@ -3,7 +3,8 @@
 use crate::text::fault::{Faults, Place};
 use crate::text::scan::Word;
 use crate::text::statement::Called;
-use crate::text::vocabulary::{is_number, quoted};
+use crate::text::vocabulary::is_number;
+use crate::wording::quoted;
 
 #[derive(Clone, Debug)]
 pub struct Ordered {
@@ -11,7 +12,7 @@ pub struct Ordered {
     pub one: &'static str,
     most: usize,
     /// Where each is declared.
-    pub lines: Vec<usize>,
+    lines: Vec<usize>,
     /// False where the text may have meant others than were taken.
     pub sure: bool,
     /// Whether a word that declares one was faulty, so that a name may be missing.

@@ -6,8 +6,9 @@ use crate::near::near;
 use crate::text::fault::Faults;
 use crate::text::reading::{Limits, Read, Reading};
 use crate::text::scan::Word;
-use crate::text::statement::{Said, Statement};
-use crate::text::vocabulary::{is_name, is_number, quoted, STATEMENTS};
+use crate::text::statement::{Called, Said, Statement};
+use crate::text::vocabulary::{is_name, is_number, STATEMENTS};
+use crate::wording::quoted;
 
 pub const SITE: &str = "the name or number of a site";
 pub const RELATION: &str = "the name or number of a relation";
@@ -67,7 +68,7 @@ impl<'t> Reading<'_, 't> {
         Said::Join { number, ends }
     }
 
-    fn join_number(&mut self) -> Read<Option<Word<'t>>> {
+    fn join_number(&mut self) -> Read<Called<'t>> {
         match self.next() {
             Some(word) if is_number(word.text) => {
                 self.skip();
@@ -92,7 +93,7 @@ impl<'t> Reading<'_, 't> {
     }
 
     /// The relations up to 'is', or to what stands in its place before a number at the end.
-    fn set(&mut self) -> Read<Vec<Option<Word<'t>>>> {
+    fn set(&mut self) -> Read<Vec<Called<'t>>> {
         let instead = match self.words {
             [before @ .., word, last] if is_number(last.text) && stands_for_is(word.text) => {
                 before.len()

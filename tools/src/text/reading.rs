@@ -3,7 +3,9 @@
 use crate::near::near;
 use crate::text::fault::{Faults, Place};
 use crate::text::scan::Word;
-use crate::text::vocabulary::{is_name, is_number, is_taken, quoted, NAME_RULE};
+use crate::text::statement::Called;
+use crate::text::vocabulary::{is_name, is_number, is_taken, NAME_RULE};
+use crate::wording::quoted;
 
 /// Nothing is made of the rest of the line; why is told already.
 #[derive(Clone, Copy, Debug)]
@@ -41,12 +43,20 @@ impl<'t> Reading<'_, 't> {
 
     /// Tells what was expected in place of the next word.
     pub fn wrong<T>(&mut self, expected: &str) -> Read<T> {
-        let (place, found) = match self.next() {
-            Some(word) => (word.place, quoted(word.text)),
-            None => (self.end, "the end of the statement".to_string()),
-        };
-        self.faults.tell(place, format!("expected {expected}, found {found}"));
+        match self.next() {
+            Some(word) => self.unlike(word, expected, ""),
+            None => {
+                let reason = format!("expected {expected}, found the end of the statement");
+                self.faults.tell(self.end, reason);
+            }
+        }
         Err(Stop)
+    }
+
+    /// Tells what was expected in place of the word, and more of it.
+    fn unlike(&mut self, word: Word, expected: &str, more: &str) {
+        let found = quoted(word.text);
+        self.faults.tell(word.place, format!("expected {expected}, found {found}{more}"));
     }
 
     /// One of these words, by its place among them. A near miss is told and taken for it.
@@ -101,12 +111,10 @@ impl<'t> Reading<'_, 't> {
         let value = if is_number(word.text) { word.text.parse().ok() } else { None };
         let value = value.filter(|value| (least..=most).contains(&value));
         if value.is_none() {
-            let mut reason = format!("expected {expected}, found {}", quoted(word.text));
-            if word.text.starts_with(|digit: char| digit.is_ascii_digit()) && !is_number(word.text)
-            {
-                reason.push_str("; numbers are whole and have digits only");
-            }
-            self.faults.tell(word.place, reason);
+            let odd = word.text.starts_with(|first: char| first.is_ascii_digit())
+                && !is_number(word.text);
+            let more = if odd { "; numbers are whole and have digits only" } else { "" };
+            self.unlike(word, &expected, more);
         }
         Ok(value)
     }
@@ -128,22 +136,19 @@ impl<'t> Reading<'_, 't> {
 
     /// A site, a relation or a join, by the word for it; one that can be neither name nor number
     /// is told, and nothing.
-    pub fn called(&mut self, what: &str) -> Read<Option<Word<'t>>> {
+    pub fn called(&mut self, what: &str) -> Read<Called<'t>> {
         let Some(word) = self.next() else {
             return self.wrong(what);
         };
         if is_taken(word.text) {
-            let found = quoted(word.text);
-            let reason = format!("expected {what}, found {found}, a word of the statements");
-            self.faults.tell(word.place, reason);
+            self.unlike(word, what, ", a word of the statements");
             return Err(Stop);
         }
         self.skip();
         if is_number(word.text) || is_name(word.text) {
             return Ok(Some(word));
         }
-        let reason = format!("expected {what}, found {}; {NAME_RULE}", quoted(word.text));
-        self.faults.tell(word.place, reason);
+        self.unlike(word, what, NAME_RULE);
         Ok(None)
     }
 }

@@ -26,15 +26,15 @@ impl<'t> Gathered<'t> {
                 let relations = relations.as_ref().map(|list| {
                     list.iter().map(|&one| self.find(Kind::Relation, one)).collect::<Vec<_>>()
                 });
-                self.told.size(place, relations, *size, &self.names, faults);
+                self.sizing.size(place, relations, *size, &self.names, faults);
             }
             Said::Rows { relation, rows } => {
                 let relation = self.find(Kind::Relation, *relation);
-                self.told.rows(place, relation, *rows, &self.names, faults);
+                self.sizing.rows(place, relation, *rows, &self.names, faults);
             }
             Said::Divisor { join, divisor } => {
                 let join = self.find(Kind::Join, *join);
-                self.told.divisor(place, join, *divisor, faults);
+                self.sizing.divisor(place, join, *divisor, faults);
             }
             _ => self.refer_to_sites(statement, faults),
         }
@@ -64,24 +64,20 @@ impl<'t> Gathered<'t> {
         line: Option<Line>,
         faults: &mut Faults,
     ) {
-        let mut key = None;
-        if let [Some((sender, at)), Some((receiver, to))] =
-            ends.map(|end| self.find(Kind::Site, end))
-        {
-            if sender == receiver {
-                let reason =
-                    format!("no line leads from {} to itself", self.names.the_site(sender));
-                faults.tell(to, reason);
-            } else {
-                key = Some((sender, receiver, at));
-            }
-        }
+        let found = ends.map(|end| self.find(Kind::Site, end));
         let names = &self.names;
-        let at = key.map_or(place, |(_, _, at)| at);
+        let key = match found {
+            [Some((sender, _)), Some((receiver, at))] if sender == receiver => {
+                faults.tell(at, format!("no line leads from {} to itself", names.the_site(sender)));
+                None
+            }
+            [Some((sender, _)), Some((receiver, _))] => Some((sender, receiver)),
+            _ => None,
+        };
+        let at = found[0].map_or(place, |(_, at)| at);
         let again = |&(sender, receiver): &(usize, usize)| {
             (at, format!("line {} to {} is", names.site(sender), names.site(receiver)))
         };
-        let key = key.map(|(sender, receiver, _)| (sender, receiver));
         self.lines.take(place, key, line, again, faults);
         if ends.iter().all(Option::is_none) {
             self.lines.lost();

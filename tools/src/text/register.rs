@@ -8,7 +8,8 @@ use crate::text::fault::{Faults, Place};
 use crate::text::ordered::Ordered;
 use crate::text::scan::Word;
 use crate::text::statement::{Called, Which};
-use crate::text::vocabulary::{is_number, quoted};
+use crate::text::vocabulary::is_number;
+use crate::wording::quoted;
 
 #[derive(Clone, Copy, Debug, PartialEq, Eq, PartialOrd, Ord, Hash)]
 pub enum Kind {
@@ -93,7 +94,7 @@ impl<'t> Register<'t> {
         }
     }
 
-    pub fn declare_one(
+    fn declare_one(
         &mut self,
         kind: Kind,
         called: Called<'t>,

@@ -1,4 +1,4 @@
-//! The words of the statements, what a name may be, and how words are told in messages.
+//! The words of the statements, and what a name and a number may be.
 
 /// Those with which a statement begins.
 pub const STATEMENTS: [&str; 11] = [
@@ -23,12 +23,9 @@ const INNER: [&str; 14] = [
 
 const LONGEST_NAME: usize = 64;
 
-/// Of a word in a message.
-const LONGEST_SHOWN: usize = 40;
-
 /// What a message says of a word that could be no name.
 pub const NAME_RULE: &str =
-    "a name begins with a letter and has letters, digits, '_', '-' and '.', at most 64";
+    "; a name begins with a letter and has letters, digits, '_', '-' and '.', at most 64";
 
 /// A word of the statements, which is no name.
 pub fn is_taken(word: &str) -> bool {
@@ -45,32 +42,4 @@ pub fn is_name(word: &str) -> bool {
 
 pub fn is_number(word: &str) -> bool {
     !word.is_empty() && word.bytes().all(|byte| byte.is_ascii_digit())
-}
-
-/// The word in quotes, cut where it is long; what can't be seen is told by its number.
-pub fn quoted(word: &str) -> String {
-    let mut shown: String = word.chars().take(LONGEST_SHOWN).map(visible).collect();
-    if word.chars().count() > LONGEST_SHOWN {
-        shown.push_str("..");
-    }
-    format!("'{shown}'")
-}
-
-fn visible(character: char) -> String {
-    match character {
-        '\'' | '"' | '\\' => character.to_string(),
-        _ if character.is_alphanumeric() => character.to_string(),
-        _ => character.escape_debug().to_string(),
-    }
-}
-
-/// So many of them at most, apart by commas, and how many more.
-pub fn listed(items: &[String], most: usize) -> String {
-    let (shown, more) = items.split_at(items.len().min(most));
-    match (shown, more.len()) {
-        ([], _) => String::new(),
-        ([only], 0) => only.clone(),
-        ([first @ .., last], 0) => format!("{} and {last}", first.join(", ")),
-        (shown, more) => format!("{} and {more} more", shown.join(", ")),
-    }
 }

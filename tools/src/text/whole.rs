@@ -3,17 +3,15 @@
 use reference::query::{Line, Query, Relation, Site};
 use reference::room::Draft;
 use reference::rows::RowCounts;
-use reference::sets;
 use reference::stated::{Form, Stated};
 use reference::tree::{self, Join};
 use reference::units::Bytes;
 
 use crate::text::fault::Faults;
 use crate::text::gathered::Gathered;
-use crate::text::missing::{self, DIVISORS, LINES, ROWS, SIZES};
+use crate::text::once::{DIVISORS, LINES, ROWS, SIZES};
 use crate::text::register::Kind;
-use crate::text::unknown;
-use crate::text::vocabulary::listed;
+use crate::wording::each_relation;
 
 impl Gathered<'_> {
     /// What room is told; nothing where a fault was told.
@@ -34,7 +32,7 @@ impl Gathered<'_> {
         }
         let lines = self.lines_in_order(faults);
         let joins = joins?;
-        let (sizes, counts) = match self.told.form() {
+        let (sizes, counts) = match self.sizing.form() {
             Form::Sizes => (self.sizes(&joins, faults)?, None),
             Form::Rows => {
                 let counts = self.row_counts(&joins, faults)?;
@@ -53,7 +51,7 @@ impl Gathered<'_> {
 
     /// The joins, where they make a tree; all that is told of a draft too.
     fn checked(&mut self, faults: &mut Faults) -> Option<Vec<Join>> {
-        unknown::tell(&self.register, faults);
+        self.register.tell_unknown(&self.names, faults);
         if self.register.sure(Kind::Site) == Some(0) {
             faults.tell(self.end, "no site; expected 'site NAME may join, fixed F, rate R'");
         }
@@ -61,14 +59,12 @@ impl Gathered<'_> {
             faults.tell(self.end, "no relation; expected 'relation NAME at SITE'");
         }
         let joins = self.tree(faults)?;
-        for &(set, place) in &self.told.sets {
+        for &(set, place) in &self.sizing.sets {
             if !tree::is_subquery(&joins, set) {
-                let relations: Vec<String> =
-                    sets::members(set).map(|one| self.names.the_relation(one)).collect();
-                let relations = listed(&relations, relations.len());
+                let relations = each_relation(&self.names, set);
                 let reason = format!("{relations} are not connected by joins, so have no size");
                 faults.tell(place, reason);
-                self.told.sizes.withdraw();
+                self.sizing.sizes.withdraw();
             }
         }
         Some(joins)
@@ -77,30 +73,24 @@ impl Gathered<'_> {
     /// The size of every subquery, ascending.
     fn sizes(&self, joins: &[Join], faults: &mut Faults) -> Option<Vec<Bytes>> {
         let subqueries = tree::subqueries(joins, joins.len() + 1);
-        let missing = self.told.sizes.missing(subqueries.iter().copied());
-        let missing: Vec<String> =
-            missing.into_iter().map(|set| format!("'{}'", self.names.set(set))).collect();
-        if !self.told.both && !self.register.unread {
-            missing::tell(&self.told.sizes, &SIZES, &missing, self.end, faults);
+        let sizes = &self.sizing.sizes;
+        if !self.sizing.both && !self.register.unread {
+            let called = |set| format!("'{}'", self.names.set(set));
+            sizes.tell_missing(&SIZES, subqueries.clone(), called, self.end, faults);
         }
-        let size = |set| self.told.sizes.get(set).map(Bytes);
-        subqueries.iter().map(size).collect()
+        subqueries.iter().map(|set| sizes.get(set).map(Bytes)).collect()
     }
 
     /// Rows of every relation and a divisor of every join.
     fn row_counts(&self, joins: &[Join], faults: &mut Faults) -> Option<RowCounts> {
-        let (rows, divisors) = (&self.told.rows, &self.told.divisors);
-        if !self.told.both && !self.register.unread {
-            let missing = rows.missing(0..joins.len() + 1);
-            let missing: Vec<String> =
-                missing.into_iter().map(|one| self.names.the_relation(one)).collect();
-            missing::tell(rows, &ROWS, &missing, self.end, faults);
-            let missing = divisors.missing(0..joins.len());
-            let missing: Vec<String> =
-                missing.into_iter().map(|one| format!("join {one}")).collect();
-            missing::tell(divisors, &DIVISORS, &missing, self.end, faults);
+        let (rows, divisors) = (&self.sizing.rows, &self.sizing.divisors);
+        if !self.sizing.both && !self.register.unread {
+            let relation = |one| self.names.the_relation(one);
+            rows.tell_missing(&ROWS, 0..=joins.len(), relation, self.end, faults);
+            let join = |one| format!("join {one}");
+            divisors.tell_missing(&DIVISORS, 0..joins.len(), join, self.end, faults);
         }
-        let rows = (0..joins.len() + 1).map(|one| rows.get(&one)).collect::<Option<_>>()?;
+        let rows = (0..=joins.len()).map(|one| rows.get(&one)).collect::<Option<_>>()?;
         let divisors = (0..joins.len()).map(|one| divisors.get(&one)).collect::<Option<_>>()?;
         Some(RowCounts { rows, divisors })
     }
@@ -108,12 +98,10 @@ impl Gathered<'_> {
     fn lines_in_order(&self, faults: &mut Faults) -> Option<Vec<Line>> {
         let ends: Vec<(usize, usize)> = Query::line_ends(self.register.sure(Kind::Site)?).collect();
         if self.every_line.is_empty() {
-            let shown = |(sender, receiver)| {
+            let line = |(sender, receiver)| {
                 format!("{} to {}", self.names.site(sender), self.names.site(receiver))
             };
-            let missing = self.lines.missing(ends.iter().copied());
-            let missing: Vec<String> = missing.into_iter().map(shown).collect();
-            missing::tell(&self.lines, &LINES, &missing, self.end, faults);
+            self.lines.tell_missing(&LINES, ends.clone(), line, self.end, faults);
         }
         let line = |ends: &(usize, usize)| match self.lines.has(ends) {
             true => self.lines.get(ends),

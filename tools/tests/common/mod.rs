@@ -3,11 +3,19 @@
 // Each test file is a program of its own and takes what it needs.
 #![allow(dead_code)]
 
+pub mod damage;
+pub mod examples;
+pub mod proved;
+pub mod stand_in;
+pub mod subcommands;
+pub mod texts;
+
 use std::env;
+use std::ffi::OsStr;
 use std::fs;
-use std::io::Write;
+use std::io::{self, Write};
 use std::path::{Path, PathBuf};
-use std::process::{Command, Stdio};
+use std::process::Command;
 use std::thread;
 
 /// What a run came to.
@@ -22,6 +30,11 @@ impl Run {
     pub fn text(&self) -> String {
         String::from_utf8(self.printed.clone()).expect("it prints UTF-8")
     }
+
+    /// The code, what is printed and what is said.
+    pub fn told(&self) -> (i32, String, String) {
+        (self.code, self.text(), self.said.clone())
+    }
 }
 
 /// The repository.
@@ -31,7 +44,25 @@ pub fn root() -> PathBuf {
 
 /// The path of an example of the repository.
 pub fn example(name: &str) -> String {
-    root().join("examples").join(name).to_str().expect("a path in UTF-8").to_string()
+    format!("{}/../examples/{name}", env!("CARGO_MANIFEST_DIR"))
+}
+
+/// The path of what is stored for the tests.
+pub fn stored(name: &str) -> String {
+    format!("{}/tests/stored/{name}", env!("CARGO_MANIFEST_DIR"))
+}
+
+/// The path of a file that a test writes.
+pub fn scratch(name: &str) -> String {
+    format!("{}/{name}", env!("CARGO_TARGET_TMPDIR"))
+}
+
+/// A folder of a test's own, with nothing in it.
+pub fn empty_folder(name: &str) -> PathBuf {
+    let folder = PathBuf::from(scratch(name));
+    let _ = fs::remove_dir_all(&folder);
+    fs::create_dir_all(&folder).expect("the folder is made");
+    folder
 }
 
 /// The tool, told where the proved programs stand.
@@ -43,24 +74,21 @@ pub fn tool() -> Command {
     command
 }
 
-pub fn run(words: &[&str]) -> Run {
-    run_on(words, b"")
+pub fn run<W: AsRef<OsStr>>(words: &[W]) -> Run {
+    run_of(tool().args(words))
 }
 
 /// With this on its standard input.
-pub fn run_on(words: &[&str], input: &[u8]) -> Run {
-    let mut child = tool()
-        .args(words)
-        .stdin(Stdio::piped())
-        .stdout(Stdio::piped())
-        .stderr(Stdio::piped())
-        .spawn()
-        .expect("the tool starts");
-    let mut stdin = child.stdin.take().expect("standard input is piped");
-    let ended = thread::scope(|scope| {
-        scope.spawn(move || stdin.write_all(input));
-        child.wait_with_output().expect("the tool ends")
-    });
+pub fn run_on<W: AsRef<OsStr>>(words: &[W], input: &[u8]) -> Run {
+    let (reader, mut writer) = io::pipe().expect("a pipe");
+    thread::scope(|scope| {
+        scope.spawn(move || writer.write_all(input));
+        run_of(tool().args(words).stdin(reader))
+    })
+}
+
+pub fn run_of(command: &mut Command) -> Run {
+    let ended = command.output().expect("the tool ends");
     Run {
         code: ended.status.code().expect("no signal ends it"),
         printed: ended.stdout,
@@ -70,11 +98,10 @@ pub fn run_on(words: &[&str], input: &[u8]) -> Run {
 
 /// That this is what tests/stored/NAME has.
 pub fn held_to(name: &str, printed: &str) {
-    let stored = Path::new(env!("CARGO_MANIFEST_DIR")).join("tests/stored").join(name);
-    let expected = fs::read_to_string(&stored).unwrap_or_default();
+    let expected = fs::read_to_string(stored(name)).unwrap_or_default();
     if printed != expected {
-        let found = Path::new(env!("CARGO_TARGET_TMPDIR")).join(name);
+        let found = scratch(name);
         fs::write(&found, printed).expect("the found text is written");
-        panic!("{} is not as stored; found:\n{printed}(kept in {})", name, found.display());
+        panic!("{name} is not as stored; found:\n{printed}(kept in {found})");
     }
 }

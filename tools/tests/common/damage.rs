@@ -1,12 +1,11 @@
 //! Random damage of texts.
 
 use reference::generate::queries::Extent;
-use reference::generate::rows;
 use reference::random::Random;
 use reference::stated::Form;
 use reference::text::print;
 
-use super::names;
+use super::texts::random_query;
 
 /// Words of the statements and others that stand where they should not.
 pub const ODD: [&str; 44] = [
@@ -82,8 +81,7 @@ fn damage(random: &mut Random, text: &str) -> String {
 pub fn damaged(random: &mut Random) -> String {
     let extent = Extent { relations: 1..=5, sites: 1..=4 };
     let form = random.pick(&Form::ALL);
-    let stated = rows::stated(random, &extent, form);
-    let names = names(random, &stated.query);
+    let (stated, names) = random_query(random, &extent, form);
     let mut text = print(&stated, &names);
     for _ in 0..random.pick(&[1, 1, 1, 2, 4]) {
         text = damage(random, &text);

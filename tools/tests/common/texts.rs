@@ -1,14 +1,19 @@
 //! Texts and names for the tests of the text form.
 
-// Each test file is a program of its own and takes what it needs.
-#![allow(dead_code)]
-
-pub mod damage;
-
 use fanchuki::text::{self, is_name, Fault};
+use reference::generate::queries::Extent;
+use reference::generate::rows;
 use reference::names::Names;
+use reference::pinned;
 use reference::query::Query;
 use reference::random::Random;
+use reference::stated::{Form, Stated};
+use reference::text::print;
+
+/// Q of docs/RULES.md.
+pub fn q() -> String {
+    print(&pinned::q().into(), &Names::default())
+}
 
 /// Three relations at three sites, all by names.
 pub const NAMED: &str = "\
@@ -46,6 +51,13 @@ pub fn taken(text: &str) -> text::Named {
 /// The faults, a line each.
 pub fn told(faults: &[Fault]) -> String {
     faults.iter().map(|fault| format!("{fault}\n")).collect()
+}
+
+/// A random query of that form, and names for it.
+pub fn random_query(random: &mut Random, extent: &Extent, form: Form) -> (Stated, Names) {
+    let stated = rows::stated(random, extent, form);
+    let names = names(random, &stated.query);
+    (stated, names)
 }
 
 /// Names for some sites and relations of the query, or for all.

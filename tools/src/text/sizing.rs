@@ -10,7 +10,7 @@ use crate::text::once::Once;
 /// A number and the place of the word for it.
 type Found = Option<(usize, Place)>;
 
-pub struct Told {
+pub struct Sizing {
     pub sizes: Once<Set, u64>,
     pub rows: Once<usize, u64>,
     pub divisors: Once<usize, u64>,
@@ -21,10 +21,10 @@ pub struct Told {
     pub both: bool,
 }
 
-impl Told {
-    pub fn new() -> Told {
+impl Sizing {
+    pub fn new() -> Sizing {
         let (sizes, rows, divisors) = (Once::new(), Once::new(), Once::new());
-        Told { sizes, rows, divisors, sets: Vec::new(), first: None, both: false }
+        Sizing { sizes, rows, divisors, sets: Vec::new(), first: None, both: false }
     }
 
     /// Sizes, where nothing is told.
