@@ -40,7 +40,7 @@ pub fn bytes(words: &Words, bytes: Vec<u8>) -> Result<Done, Failure> {
 
 /// The file to write, where there is one. The one that was read is not written over: its names
 /// and comments, or its rows, would be lost.
-fn out(words: &Words) -> Result<Option<&OsStr>, Failure> {
+pub fn out(words: &Words) -> Result<Option<&OsStr>, Failure> {
     let Some(out) = words.value(OPTION)?.filter(|out| *out != "-") else {
         return Ok(None);
     };

@@ -83,12 +83,12 @@ fn fault(statement: &str, replacement: &str) -> String {
 
 #[test]
 fn faults_tell_their_place() {
-    let said = "1:12: one site too many: a query has at most 8\n";
+    let said = "1:12: a query has at most 8 sites\n";
     assert_eq!(fault("sites 0 to 1", "sites 0 to 8"), said);
     assert_eq!(fault("sites 0 to 1", "sites 1 to 2"), "1:7: site 0 comes next, not '1'\n");
     let said = "1:11: expected 'join' or 'not', found the end of the statement\n";
     assert_eq!(fault("sites 0 to 1", "site 0 may"), said);
-    let said = "2:16: one relation too many: a query has at most 9\n";
+    let said = "2:16: a query has at most 9 relations\n";
     assert_eq!(fault("relations 0 to 2", "relations 0 to 9"), said);
     let said = "2:16: expected a number beside 'to', found 'x'\n";
     assert_eq!(fault("relations 0 to 2", "relations 0 to x"), said);
@@ -120,7 +120,7 @@ fn more_joins_than_any_query_has_tell_their_place() {
         (0..9).map(|join| format!("join {join} links 0 and {}\n", join + 1)).collect();
     let said = told(&draft(&format!("site 0\nrelations 0 to 8\n{joins}")).expect_err("a fault"));
     let relation = "11:20: no relation 9; the relations are 0 to 8\n";
-    assert_eq!(said, format!("11:6: one join too many: a query has at most 8\n{relation}"));
+    assert_eq!(said, format!("11:6: a query has at most 8 joins\n{relation}"));
 }
 
 #[test]

@@ -62,7 +62,7 @@ fn unknown_options_are_told() {
 fn missing_words_are_told() {
     for (name, _) in SUBCOMMANDS {
         is_usage(&run(&words(name, &[])), "missing", name);
-        let said = if name == "whatif" { "no --line is named" } else { "the FILE " };
+        let said = "the FILE";
         is_usage(&run(&[name]), said, name);
         is_usage(&run(&[name, "--"]), said, name);
     }

@@ -13,6 +13,7 @@ use crate::given::Given;
 use crate::output;
 use crate::proved::loaded::Loaded;
 use crate::words::Words;
+use crate::written;
 
 pub const COMMAND: Command = Command { name: "draw", help: HELP, run };
 
@@ -38,11 +39,11 @@ enum Kind {
 }
 
 fn run(words: &[OsString]) -> Result<Done, Failure> {
-    let words = Words::take(words, &["--rows"], &["-o"])?;
+    let words = Words::take(words, &["--rows"], &[written::OPTION])?;
     let [file] = words.just("the FILE")?;
-    let out = match words.value("-o")? {
-        Some(out) if out != "-" => Some((kind(out)?, out)),
-        _ => None,
+    let out = match written::out(&words)? {
+        Some(out) => Some((kind(out)?, out)),
+        None => None,
     };
     let dot = dot(Given::read(file, words.has("--rows"))?)?;
     match out {

@@ -39,10 +39,10 @@ fn run(words: &[OsString]) -> Result<Done, Failure> {
     let (words, asked) = split(words);
     // None is left, but near misses of it may be.
     let words = Words::take(&words, &["--rows"], &["--line"])?;
+    let [file] = words.just("the FILE, which stands before the first --line,")?;
     if asked.is_empty() {
         return Err(Failure::Usage("no --line is named".into()));
     }
-    let [file] = words.just("the FILE, which stands before the first --line,")?;
     let given = Given::read(file, words.has("--rows"))?;
     let changes = read(&asked, &given.names)?;
     let mut loaded = Loaded::load(given)?;

@@ -118,7 +118,7 @@ impl Drop for Calls {
 }
 
 fn unexpected(line: &str) -> Failure {
-    failed(format!("answered {}", programs::quoted(line)))
+    failed(format!("answered {}", programs::front(line)))
 }
 
 fn failed(reason: impl Display) -> Failure {

@@ -12,7 +12,7 @@ use crate::proved::answers::{self, Refused, Solved};
 
 /// Names the folder with `plan` and `calls`, where it is set. An empty name counts as none: a
 /// program's bare name would be looked for among the system's.
-pub const FOLDER_VARIABLE: &str = "FANCHUKI_PROGRAMS";
+const FOLDER_VARIABLE: &str = "FANCHUKI_PROGRAMS";
 
 /// Of a line that no proved program prints, so many characters are told.
 const MOST_QUOTED: usize = 60;
@@ -70,7 +70,7 @@ pub fn plan(file: &[u8]) -> Result<Result<Solved, Refused>, Failure> {
     }
     let printed = String::from_utf8_lossy(&ended.stdout);
     answers::listing(&printed)
-        .ok_or_else(|| failed(&program, format!("not a listing: {}", quoted(&printed))))
+        .ok_or_else(|| failed(&program, format!("not a listing: {}", front(&printed))))
 }
 
 /// A fault of that program.
@@ -79,8 +79,8 @@ fn failed(program: &Path, reason: impl Display) -> Failure {
 }
 
 /// What a program printed, its front where it is long.
-pub fn quoted(printed: &str) -> String {
-    let front: String = printed.chars().take(MOST_QUOTED).collect();
-    let rest = if front.len() < printed.len() { " and more" } else { "" };
-    format!("'{}'{rest}", front.escape_debug())
+pub fn front(printed: &str) -> String {
+    let shown: String = printed.chars().take(MOST_QUOTED).collect();
+    let rest = if shown.len() < printed.len() { " and more" } else { "" };
+    format!("'{}'{rest}", shown.escape_debug())
 }

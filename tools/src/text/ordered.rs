@@ -44,8 +44,7 @@ impl Ordered {
         if self.count() >= self.most && !self.too_many {
             self.too_many = true;
             self.sure = false;
-            let reason = format!("one {} too many: a query has at most {}", self.one, self.most);
-            faults.tell(place, reason);
+            faults.tell(place, format!("a query has at most {} {}s", self.most, self.one));
         }
         self.lines.push(place.line);
         self.count() - 1
