@@ -5,7 +5,12 @@ const LONGEST: usize = 64;
 
 /// "; did you mean 'relation'?", or nothing.
 pub fn did_you_mean<'c>(word: &str, candidates: impl IntoIterator<Item = &'c str>) -> String {
-    near(word, candidates).map_or_else(String::new, |meant| format!("; did you mean '{meant}'?"))
+    let meant = near(word, candidates);
+    meant.map_or_else(String::new, |meant| format!("; {}", question(meant)))
+}
+
+pub fn question(meant: &str) -> String {
+    format!("did you mean '{meant}'?")
 }
 
 /// The candidate that the word comes nearest to, if it comes near at all; of several the first.

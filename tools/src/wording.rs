@@ -60,9 +60,13 @@ pub fn is_unseen(character: char) -> bool {
 pub fn counted(count: usize, one: &str) -> String {
     match count {
         0 => format!("no {one}s"),
-        1 => format!("1 {one}"),
-        _ => format!("{count} {one}s"),
+        _ => numbered(count as u64, one),
     }
+}
+
+/// "1 byte", "2 bytes", "0 bytes", where numbers stand in a row.
+pub fn numbered(number: u64, one: &str) -> String {
+    format!("{number} {one}{}", if number == 1 { "" } else { "s" })
 }
 
 /// "0 to 2", or the one number that there is.

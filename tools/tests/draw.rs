@@ -16,7 +16,7 @@ fn every_example_is_drawn() {
 }
 
 fn with_names(relations: [&str; 4], sites: [&str; 3]) -> String {
-    let (mut loaded, _) = proved::four_tables(relations, sites);
+    let mut loaded = proved::four_tables(relations, sites);
     let Ok(Cheapest::Plan(plan)) = cheapest::find(&mut loaded) else { panic!("no plan") };
     drawn::dot(&loaded.query, &loaded.names, &plan).expect("a tree")
 }

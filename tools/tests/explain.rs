@@ -47,9 +47,9 @@ fn a_cost_of_nothing() {
 }
 
 fn with_names(relations: [&str; 4], sites: [&str; 3]) -> String {
-    let (mut loaded, given) = proved::four_tables(relations, sites);
+    let mut loaded = proved::four_tables(relations, sites);
     let Ok(Cheapest::Plan(plan)) = cheapest::find(&mut loaded) else { panic!("no plan") };
-    let explained = Explained::find(&mut loaded, &given.file, given.form, plan);
+    let explained = Explained::find(&mut loaded, plan);
     let explained = explained.expect("an explanation");
     explained.print(&loaded.query, &loaded.names, loaded.subqueries)
 }

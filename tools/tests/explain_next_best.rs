@@ -17,12 +17,9 @@ fn the_next_best_is_the_models() {
     let mut loaded = running();
     let (mut lines, mut sites, mut dearer, mut none) = (0, 0, 0, 0);
     for case in 0..600 {
-        let stated = random(SEED, case);
-        let form = stated.form();
-        let file = put(&mut loaded, stated);
+        put(&mut loaded, random(SEED, case));
         let Ok(Cheapest::Plan(plan)) = cheapest::find(&mut loaded) else { continue };
-        let explained =
-            Explained::find(&mut loaded, &file, form, plan.clone()).expect("an explanation");
+        let explained = Explained::find(&mut loaded, plan.clone()).expect("an explanation");
         for part in &explained.lines {
             let mut other = loaded.query.clone();
             other.line_mut(part.which.0, part.which.1).open = false;

@@ -34,16 +34,14 @@ plan is allowed, 'no route trials N' is printed, and what is known of the reason
 fn run(words: &[OsString]) -> Result<Done, Failure> {
     let words = Words::take(words, &["--rows"], &[])?;
     let [file] = words.just("the FILE")?;
-    let given = Given::read(file, words.has("--rows"))?;
-    let (file, form) = (given.file.clone(), given.form);
-    let mut loaded = Loaded::load(given)?;
+    let mut loaded = Loaded::load(Given::read(file, words.has("--rows"))?)?;
     match cheapest::find(&mut loaded)? {
         Cheapest::NoRoute { trials } => {
             let text = no_route::text(&loaded.query, &loaded.names, trials);
             Ok(Done { code: 1, ..Done::printing(text) })
         }
         Cheapest::Plan(plan) => {
-            let explained = Explained::find(&mut loaded, &file, form, plan)?;
+            let explained = Explained::find(&mut loaded, plan)?;
             let Loaded { query, names, subqueries, .. } = &loaded;
             Ok(Done::printing(explained.print(query, names, *subqueries)))
         }

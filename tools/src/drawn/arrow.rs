@@ -1,8 +1,9 @@
 //! The arrow from a result to where it is used, its label in its course, so that no arrow runs
 //! over a label.
 
-use crate::drawn::labels::{counted, label};
+use crate::drawn::labels::label;
 use crate::drawn::tree::{Carried, Node};
+use crate::wording::numbered;
 
 const SENT: &str = "penwidth=1.8, color=\"#333333\"";
 const SPARED: &str = "style=dashed, color=\"#777777\"";
@@ -20,7 +21,7 @@ pub fn arrow(nodes: &[Node], from: usize, to: &str) -> String {
             tagged(from, to, SPARED, &format!("label={}, {WORDS}", label(&["read spared".into()])))
         }
         Carried::Sent { sending, charge } => {
-            let parcels = counted(sending.parcels.0, "parcel", "parcels");
+            let parcels = numbered(sending.parcels.0, "parcel");
             let lines = [format!("send: {}", charge.0), parcels];
             tagged(from, to, SENT, &format!("label={}, {TAG}", label(&lines)))
         }

@@ -28,8 +28,3 @@ pub fn label(lines: &[String]) -> String {
     let rest: String = rest.iter().map(|line| format!("<br/>{line}")).collect();
     format!("<<b>{}</b>{rest}>", first.concat())
 }
-
-/// So many of them.
-pub fn counted(number: u64, one: &str, more: &str) -> String {
-    format!("{number} {}", if number == 1 { one } else { more })
-}

@@ -6,9 +6,10 @@ use reference::names::Names;
 use reference::query::Query;
 
 use crate::cheapest::Plan;
-use crate::drawn::labels::{counted, escaped};
+use crate::drawn::labels::escaped;
 use crate::drawn::palette;
 use crate::drawn::tree::Node;
+use crate::wording::numbered;
 
 /// So many sites stand side by side.
 const MOST_COLUMNS: usize = 4;
@@ -19,7 +20,7 @@ pub fn label(query: &Query, names: &Names, plan: &Plan, nodes: &[Node]) -> Strin
     let sites: Vec<usize> = sites.into_iter().collect();
     let rows = sites.len().div_ceil(MOST_COLUMNS);
     let columns = sites.len().div_ceil(rows.max(1)).max(1);
-    let steps = counted(plan.steps.len() as u64, "step", "steps");
+    let steps = numbered(plan.steps.len() as u64, "step");
     let title = format!(
         "<b>cost {}</b>, {steps}, to {}",
         plan.cost.0,

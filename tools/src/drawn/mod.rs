@@ -15,9 +15,10 @@ use reference::query::Query;
 
 use crate::cheapest::Plan;
 use crate::drawn::arrow::arrow;
-use crate::drawn::labels::{counted, label};
+use crate::drawn::labels::label;
 use crate::drawn::tree::{Made, Node};
 use crate::explained::table::wrapped;
+use crate::wording::numbered;
 
 /// A join's relations take so many characters of a line.
 const LINE_WIDTH: usize = 18;
@@ -102,5 +103,5 @@ fn coloured(site: usize, lines: &[String], more: &str) -> String {
 }
 
 fn bytes(node: &Node) -> String {
-    counted(node.size.0, "byte", "bytes")
+    numbered(node.size.0, "byte")
 }

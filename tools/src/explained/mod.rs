@@ -10,7 +10,6 @@ pub mod table;
 
 use reference::names::Names;
 use reference::query::Query;
-use reference::stated::Form;
 use reference::units::Charge;
 
 use crate::cheapest::Plan;
@@ -25,14 +24,8 @@ pub struct Explained {
 }
 
 impl Explained {
-    /// Of the plan of the query in force; the file of the form is the one that was loaded, and
-    /// its query is in force afterwards.
-    pub fn find(
-        loaded: &mut Loaded,
-        file: &[u8],
-        form: Form,
-        plan: Plan,
-    ) -> Result<Explained, Failure> {
+    /// Of the plan of the query in force, which is in force afterwards too.
+    pub fn find(loaded: &mut Loaded, plan: Plan) -> Result<Explained, Failure> {
         let mut lines = Vec::new();
         for (which, share) in shares::of_lines(&plan.steps) {
             let without = next_best::without_line(loaded, which.0, which.1)?;
@@ -40,7 +33,7 @@ impl Explained {
         }
         let mut sites = Vec::new();
         for (which, share) in shares::of_sites(&plan.steps) {
-            let without = next_best::without_joins(loaded, file, form, which)?;
+            let without = next_best::without_joins(loaded, which)?;
             sites.push(Part { which, share, without: no_less(plan.cost, without)? });
         }
         Ok(Explained { plan, sites, lines })

@@ -1,17 +1,13 @@
 //! What the cheapest plan costs that does without a line, or without joins at a site, by the
 //! proved answers.
 
+use reference::encode::encode;
 use reference::query::Line;
 use reference::stated::Form;
 
 use crate::failure::Failure;
 use crate::proved::calls::Solved;
 use crate::proved::loaded::Loaded;
-
-/// In both forms of the file: behind the count of sites, and so many bytes for each, of which
-/// the first is the flag.
-const FIRST_SITE: usize = 1;
-const SITE_BYTES: usize = 9;
 
 /// With that line closed; nothing where there is no route then. The line is as it was
 /// afterwards.
@@ -23,21 +19,14 @@ pub fn without_line(loaded: &mut Loaded, from: usize, to: usize) -> Result<Optio
     Ok(next)
 }
 
-/// With no joins at that site; nothing where there is no route then. The query of the file is
-/// loaded again afterwards.
-pub fn without_joins(
-    loaded: &mut Loaded,
-    file: &[u8],
-    form: Form,
-    site: usize,
-) -> Result<Option<u64>, Failure> {
-    let mut other = file.to_vec();
-    if let Some(flag) = other.get_mut(FIRST_SITE + SITE_BYTES * site) {
-        *flag = 0;
-    }
-    load(loaded, &other, form)?;
+/// With no joins at that site; nothing where there is no route then. The query is loaded again
+/// afterwards.
+pub fn without_joins(loaded: &mut Loaded, site: usize) -> Result<Option<u64>, Failure> {
+    let mut other = loaded.query.clone();
+    other.sites[site].may_join = false;
+    load(loaded, &encode(&other))?;
     let next = cost(loaded)?;
-    load(loaded, file, form)?;
+    load(loaded, &encode(&loaded.query))?;
     Ok(next)
 }
 
@@ -48,8 +37,10 @@ fn cost(loaded: &mut Loaded) -> Result<Option<u64>, Failure> {
     })
 }
 
-fn load(loaded: &mut Loaded, file: &[u8], form: Form) -> Result<(), Failure> {
-    let answer = loaded.calls.load(file, form)?;
-    let admitted = answer.map(|_| ());
-    admitted.map_err(|refused| Failure::Fault(format!("{} answers {refused:?}", form.load_name())))
+/// By an ordinary file, whatever form the query came in: its sizes are worked out by now.
+fn load(loaded: &mut Loaded, file: &[u8]) -> Result<(), Failure> {
+    let admitted = loaded.calls.load(file, Form::Sizes)?.map(|_| ());
+    admitted.map_err(|refused| {
+        Failure::Fault(format!("the proved load answers refused {}", refused.number))
+    })
 }

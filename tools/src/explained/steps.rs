@@ -6,6 +6,7 @@ use reference::step::Step;
 
 use crate::explained::table::{wrapped, Side, Table};
 use crate::priced::{Joining, Operand, Price, Priced, Sending};
+use crate::wording::numbered;
 
 /// Relations that are held together take so many characters of a line.
 const HELD_WIDTH: usize = 17;
@@ -61,8 +62,7 @@ fn price(names: &Names, price: &Price) -> String {
     match price {
         Price::Load => String::new(),
         Price::Send(Sending { fixed, rate, parcels, .. }) => {
-            let many = if parcels.0 == 1 { "parcel" } else { "parcels" };
-            format!("{} + {} × {} {many}", fixed.0, rate.0, parcels.0)
+            format!("{} + {} × {}", fixed.0, rate.0, numbered(parcels.0, "parcel"))
         }
         Price::Join(joining) => join_price(names, joining),
     }

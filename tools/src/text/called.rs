@@ -3,7 +3,7 @@
 use reference::limits::MOST_RELATIONS;
 use reference::names::Names;
 
-use crate::near::near;
+use crate::near::{near, question};
 use crate::text::fault::Faults;
 use crate::text::ordered::Ordered;
 use crate::text::register::{Kind, Register};
@@ -80,7 +80,7 @@ impl<'t> Register<'t> {
                 Kind::Join => (&[][..], &[][..], "join"),
             };
             let hint = match near(word, own.iter().flatten().map(String::as_str)) {
-                Some(meant) => format!("did you mean '{meant}'?"),
+                Some(meant) => question(meant),
                 None if ordered.doubted || !ordered.sure => continue,
                 None if others.iter().any(|name| name.as_deref() == Some(word)) => {
                     format!("that is a {other}")

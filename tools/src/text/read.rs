@@ -2,7 +2,7 @@
 
 use reference::limits::{MOST_DIVISOR, MOST_ROWS, MOST_SIZE};
 
-use crate::near::near;
+use crate::near::{near, question};
 use crate::text::fault::Faults;
 use crate::text::reading::{Limits, Read, Reading};
 use crate::text::scan::Word;
@@ -46,7 +46,7 @@ fn begins(first: Word, faults: &mut Faults) -> Option<&'static str> {
     }
     let meant = near(first.text, STATEMENTS);
     let hint = match meant {
-        Some(meant) => format!("did you mean '{meant}'?"),
+        Some(meant) => question(meant),
         None => format!("one begins with {}", STATEMENTS.join(", ")),
     };
     faults.tell(first.place, format!("{} is no statement; {hint}", quoted(first.text)));

@@ -34,12 +34,11 @@ pub fn running() -> Loaded {
 }
 
 /// In force from now on; its file.
-pub fn put(loaded: &mut Loaded, stated: Stated) -> Vec<u8> {
+pub fn put(loaded: &mut Loaded, stated: Stated) {
     let file = encode::encode_stated(&stated);
     let answer = loaded.calls.load(&file, stated.form()).expect("an answer").expect("a load");
     loaded.query = stated.query;
     loaded.subqueries = answer.subqueries as u64;
-    file
 }
 
 /// A query of all shapes and both forms, a quarter of them with many ties.
@@ -53,12 +52,12 @@ pub fn random(seed: u64, case: u64) -> Stated {
 }
 
 /// A query of four tables in force, by these names.
-pub fn four_tables(relations: [&str; 4], sites: [&str; 3]) -> (Loaded, Given) {
+pub fn four_tables(relations: [&str; 4], sites: [&str; 3]) -> Loaded {
     find_programs();
     let text = stored("four-tables.txt");
     let mut given = Given::read(text.as_ref(), false).expect("the text is right");
     given.names = names(&sites, &relations);
-    (Loaded::load(given.clone()).expect("the query is loaded"), given)
+    Loaded::load(given).expect("the query is loaded")
 }
 
 /// These, from number 0.
