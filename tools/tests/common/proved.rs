@@ -33,7 +33,7 @@ pub fn running() -> Loaded {
     Loaded::load(q).expect("Q is loaded")
 }
 
-/// In force from now on; its file.
+/// In force from now on.
 pub fn put(loaded: &mut Loaded, stated: Stated) {
     let file = encode::encode_stated(&stated);
     let answer = loaded.calls.load(&file, stated.form()).expect("an answer").expect("a load");
