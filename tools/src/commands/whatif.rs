@@ -117,13 +117,13 @@ fn apply(loaded: &mut Loaded, change: &Change) -> Result<(Ends, Line), Failure> 
             *line = Line { open: link.open == 1, fixed: Charge(link.fixed), rate: Rate(link.rate) };
             Ok((ends, today))
         }
-        (Err(number), Some((own, words))) if number == own => {
+        (Err(number), Some((own, words))) if number == own.number() => {
             Err(Failure::Refused(format!("refused {number}: {words}")))
         }
         (proved, own) => {
             let told =
                 |answer: Option<u64>| answer.map_or("done".into(), |it| format!("refused {it}"));
-            let (proved, own) = (told(proved.err()), told(own.map(|(number, _)| number)));
+            let (proved, own) = (told(proved.err()), told(own.map(|(own, _)| own.number())));
             Err(Failure::Fault(format!(
                 "the proved link answers {proved}, the tool comes to {own}"
             )))

@@ -6,6 +6,7 @@ use reference::limits::{MOST_FIXED, MOST_RATE};
 use reference::names::Names;
 use reference::planner::Link;
 use reference::query::{Line, Query};
+use reference::refusal::Refusal;
 
 use crate::failure::Failure;
 use crate::near::did_you_mean;
@@ -69,19 +70,22 @@ impl Change {
     }
 }
 
-/// The number with which link refuses it, and the words for it.
-pub fn refusal(link: &Link, query: &Query, names: &Names) -> Option<(u64, String)> {
+/// How link refuses it, and the words for it.
+pub fn refusal(link: &Link, query: &Query, names: &Names) -> Option<(Refusal, String)> {
     let last = query.sites.len() as u64 - 1;
     if let Some(site) = [link.sender, link.receiver].into_iter().find(|&site| site > last) {
-        return Some((6, format!("there is no site {site}: must be {}", wording::range(0, last))));
+        let must = wording::range(0, last);
+        return Some((Refusal::LinkSites, format!("there is no site {site}: must be {must}")));
     }
     if link.sender == link.receiver {
         let site = names.the_site(link.sender as usize);
-        return Some((6, format!("no line leads from {site} to itself")));
+        return Some((Refusal::LinkSites, format!("no line leads from {site} to itself")));
     }
     let amounts = [("fixed", link.fixed, MOST_FIXED), ("rate", link.rate, MOST_RATE)];
     let over = amounts.into_iter().find(|&(_, amount, most)| amount > most);
-    over.map(|(what, amount, most)| (3, format!("{what} {amount}: must be 0 to {most}")))
+    over.map(|(what, amount, most)| {
+        (Refusal::OutOfRange, format!("{what} {amount}: must be 0 to {most}"))
+    })
 }
 
 fn site(word: &str, names: &Names) -> Result<u64, Failure> {
