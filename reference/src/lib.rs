@@ -2,9 +2,9 @@
 //!
 //! Read in this order: `query` and `prices` (what is planned), `rules` (the plan
 //! rules), `exhaustive` (the cheapest allowed plan by searching those rules),
-//! `tables` (the two tables), `rows` (sizes from row counts), `planner` and `room` (the calls).
-//! `generate` makes queries, files, plans and call lists; `compare` holds built programs
-//! to the model.
+//! `routes` (sends one after the other), `tables` (the two tables), `rows` (sizes from
+//! row counts), `planner` and `room` (the calls). `generate` makes queries, files, plans
+//! and call lists; `compare` holds built programs to the model.
 
 pub mod answers;
 pub mod c_call;
@@ -33,6 +33,7 @@ pub mod query;
 pub mod random;
 pub mod refusal;
 pub mod room;
+pub mod routes;
 pub mod rows;
 pub mod rules;
 pub mod script;

@@ -10,11 +10,14 @@ pub const MOST_FIXED: u64 = 1_000_000;
 pub const MOST_RATE: u64 = 1_000;
 /// The bytes of a full parcel.
 pub const PARCEL: u64 = 8;
-pub const MOST_STEPS: usize = 34;
+/// 9 loads, 8 joins, and 7 sends of each of their 17 results.
+pub const MOST_STEPS: usize = 136;
 /// The bytes of a plan with so many steps.
 pub const LONGEST_PLAN: usize = 1 + 2 * MOST_STEPS;
 pub const LONGEST_FILE: usize = 1_674;
 /// The most cells that solve ever needs: 264 subqueries at eight sites.
 pub const MOST_CELLS: usize = 2_112;
 /// No allowed plan costs more.
-pub const DEAREST_PLAN: u64 = 26_125_025_000_000;
+pub const DEAREST_PLAN: u64 = 38_875_127_000_000;
+/// The C call returns this plus the number of a refusal; no plan is as long.
+pub const REFUSED: u64 = 1_024;

@@ -30,7 +30,7 @@ pub fn rows() -> Vec<(Query, Option<u64>)> {
         (changed(&|query| query.delivery = 2), Some(23)),
         (changed(&|query| query.relations[0].index = true), Some(11)),
         (changed(&|query| query.sites[0].may_join = false), Some(24)),
-        (changed(&|query| query.line_mut(1, 0).open = false), Some(26)),
+        (changed(&|query| query.line_mut(1, 0).open = false), Some(23)),
         (
             changed(&|query| {
                 query.line_mut(1, 0).open = false;

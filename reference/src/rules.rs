@@ -74,7 +74,7 @@ impl Stack {
 
     fn send(&mut self, query: &Query, to: usize) -> Option<Charge> {
         let top = self.held.last_mut()?;
-        if top.origin == Origin::Sent || top.site == to || !query.line(top.site, to).open {
+        if top.site == to || !query.line(top.site, to).open {
             return None;
         }
         let cost = prices::send(query.line(top.site, to), query.size(top.set));

@@ -31,7 +31,7 @@ pub fn trials(query: &Query) -> u64 {
     (query.sites.len() * joins_tried.sum::<usize>()) as u64
 }
 
-/// The result made at the site where it is cheapest, then a send if one is due.
+/// The result made at the site where it is cheapest, then the sends of its route.
 fn write_delivered(tables: &Tables, subquery: Set, to: usize, steps: &mut Vec<Step>) {
     let from = tables.delivered(subquery, to).by;
     if sets::count(subquery) == 1 {
@@ -39,9 +39,9 @@ fn write_delivered(tables: &Tables, subquery: Set, to: usize, steps: &mut Vec<St
     } else {
         write_joined(tables, subquery, from, steps);
     }
-    if from != to {
-        steps.push(Step::Send { to });
-    }
+    let route = tables.routes(subquery, from).swap_remove(to);
+    let stops = route.map_or(Vec::new(), |route| route.stops);
+    steps.extend(stops.into_iter().map(|to| Step::Send { to }));
 }
 
 /// The part with the join's first relation, the other part, and the join.

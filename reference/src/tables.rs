@@ -4,6 +4,7 @@
 use crate::method::Method;
 use crate::prices::Operand;
 use crate::query::Query;
+use crate::routes::{self, Route};
 use crate::sets::{self, Set};
 use crate::tree;
 use crate::units::Charge;
@@ -52,13 +53,15 @@ impl<'query> Tables<'query> {
         let sites = 0..self.query.sites.len();
         if sets::count(subquery) == 1 {
             let home = self.query.relations[sets::lowest(subquery)].home;
-            let from_home = |to| Entry { cost: self.carriage(subquery, home, to), by: home };
-            self.delivered[place] = sites.map(from_home).collect();
+            let from_home = |route: &Option<Route>| Entry { cost: carriage(route), by: home };
+            self.delivered[place] = self.routes(subquery, home).iter().map(from_home).collect();
         } else {
             let splits = self.splits(subquery);
             let joined = |at| self.joined_at(subquery, &splits, at);
             self.joined[place] = sites.clone().map(joined).collect();
-            self.delivered[place] = sites.map(|to| self.delivered_at(subquery, to)).collect();
+            let routes: Vec<_> = sites.clone().map(|from| self.routes(subquery, from)).collect();
+            let delivered = |to| self.delivered_at(subquery, &routes, to);
+            self.delivered[place] = sites.map(delivered).collect();
         }
     }
 
@@ -97,11 +100,11 @@ impl<'query> Tables<'query> {
     }
 
     /// Delivered(S, t) of two relations or more.
-    fn delivered_at(&self, subquery: Set, to: usize) -> Entry {
+    fn delivered_at(&self, subquery: Set, routes: &[Vec<Option<Route>>], to: usize) -> Entry {
         let mut best = Entry { cost: None, by: 0 };
         let asked_first = (self.method == Method::AskedSiteFirst).then_some(to);
         for at in asked_first.into_iter().chain(0..self.query.sites.len()) {
-            let cost = self.sum(self.joined(subquery, at).cost, self.carriage(subquery, at, to));
+            let cost = self.sum(self.joined(subquery, at).cost, carriage(&routes[at][to]));
             if self.wins(cost, best.cost, Method::HighestSite) {
                 best = Entry { cost, by: at };
             }
@@ -109,16 +112,17 @@ impl<'query> Tables<'query> {
         best
     }
 
-    /// The price of the direct line, 0 for the same site, none if it is closed.
-    fn carriage(&self, subquery: Set, from: usize, to: usize) -> Cost {
-        if from == to {
-            return Some(Charge(0));
-        }
-        let line = match self.method {
-            Method::OtherDirection => self.query.line(to, from),
-            _ => self.query.line(from, to),
+    /// How the subquery's result comes from one site to each.
+    pub fn routes(&self, subquery: Set, from: usize) -> Vec<Option<Route>> {
+        let size = self.query.size(subquery);
+        let price = |sender, receiver| {
+            let line = match self.method {
+                Method::OtherDirection => self.query.line(receiver, sender),
+                _ => self.query.line(sender, receiver),
+            };
+            line.open.then(|| self.method.send(line, size))
         };
-        line.open.then(|| self.method.send(line, self.query.size(subquery)))
+        routes::best_from(from, self.query.sites.len(), &price, &Route::lt)
     }
 
     /// Two parts that were delivered to the site, as the operands of a join there: one that has
@@ -165,6 +169,11 @@ impl<'query> Tables<'query> {
             }
         }
     }
+}
+
+/// What a route costs; none where there is none.
+fn carriage(route: &Option<Route>) -> Cost {
+    route.as_ref().map(|route| route.cost)
 }
 
 /// The mistake of a planner that has the largest number for none.

@@ -9,7 +9,7 @@ use crate::c_call;
 use crate::compare::cases;
 use crate::compare::tally::Tally;
 use crate::hex::hex;
-use crate::limits::LONGEST_PLAN;
+use crate::limits::{LONGEST_PLAN, REFUSED};
 
 pub const DEFAULT_SEED: u64 = 1;
 pub const DEFAULT_COUNT: u64 = 20_000;
@@ -71,7 +71,7 @@ pub fn compare(call: CCall, seed: u64, count: u64) -> Result<Tally, Box<Mismatch
 /// One file with outputs of several lengths: the longest plan's, and around the plan's own.
 pub fn compare_file(call: CCall, file: &[u8], tally: &mut Tally) -> Result<(), Box<Mismatch>> {
     let returned = compare_one(call, file, LONGEST_PLAN, tally)?;
-    if (1..256).contains(&returned) {
+    if (1..REFUSED).contains(&returned) {
         let length = returned as usize;
         for length in [length, length - 1, 0, length + 1, 1_000] {
             compare_one(call, file, length, tally)?;
@@ -128,7 +128,7 @@ fn outcome(length: usize, call: impl FnOnce(&mut [u8]) -> u64) -> Outcome {
 fn kind(returned: u64) -> String {
     match returned {
         0 => "no route".to_string(),
-        256.. => format!("refused {}", returned - 256),
+        REFUSED.. => format!("refused {}", returned - REFUSED),
         _ => "plan".to_string(),
     }
 }
