@@ -2,8 +2,9 @@
 //! step that the plan rules allow from every stack that can be reached. It knows the
 //! rules and the prices and nothing of the two tables.
 //!
-//! No bound on the steps is needed: a plan has at most n loads and n - 1 joins, and
-//! each send follows one of those, so at most 4n - 2 steps, 34 for nine relations.
+//! It has no bound on the steps and needs none, since there are only so many stacks, of which
+//! each is followed once. So no plan of any number of steps is cheaper than what it finds, and
+//! where it finds none, there is none of any number of steps.
 
 use std::cmp::Reverse;
 use std::collections::{BinaryHeap, HashMap};
@@ -50,14 +51,15 @@ pub fn stacks(query: &Query) -> u64 {
     on_top_of[0]
 }
 
-/// A relation is bare at its home or was sent elsewhere; a larger result was joined at
-/// a site or sent to one.
+/// A relation is bare at its home or was sent to a site, its home too; a larger result was
+/// joined at a site or sent to one. At one site nothing is sent.
 fn forms(query: &Query, result: Set) -> u64 {
     let sites = query.sites.len() as u64;
+    let sent = if sites == 1 { 0 } else { sites };
     if sets::count(result) == 1 {
-        sites
+        1 + sent
     } else {
-        2 * sites
+        sites + sent
     }
 }
 
@@ -99,15 +101,16 @@ fn search(query: &Query) -> Option<Charge> {
     None
 }
 
-/// Visits every allowed plan with its cost, one after the other and none left out.
-/// Only for the smallest queries.
-pub fn every_plan(query: &Query, visit: &mut impl FnMut(&[Step], Charge)) {
-    extend(query, &Stack::default(), &mut Vec::new(), Charge(0), visit);
+/// Visits every allowed plan of up to so many steps with its cost, one after the other and none
+/// left out. Only for the smallest queries.
+pub fn every_plan(query: &Query, most_steps: usize, visit: &mut impl FnMut(&[Step], Charge)) {
+    extend(query, &Stack::default(), most_steps, &mut Vec::new(), Charge(0), visit);
 }
 
 fn extend(
     query: &Query,
     stack: &Stack,
+    steps_left: usize,
     taken: &mut Vec<Step>,
     cost: Charge,
     visit: &mut impl FnMut(&[Step], Charge),
@@ -115,11 +118,14 @@ fn extend(
     if stack.is_finished(query) {
         visit(taken, cost);
     }
+    if steps_left == 0 {
+        return;
+    }
     for step in Step::all(query) {
         let mut next = stack.clone();
         if let Ok(price) = next.step(query, step) {
             taken.push(step);
-            extend(query, &next, taken, cost + price, visit);
+            extend(query, &next, steps_left - 1, taken, cost + price, visit);
             taken.pop();
         }
     }

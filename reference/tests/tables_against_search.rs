@@ -47,14 +47,18 @@ fn five_relations() {
     agree_on_many(13, 100, Extent { relations: 5..=5, sites: 1..=3 });
 }
 
+/// Up to as many steps as a plan has in which each result is sent to every other site.
 #[test]
 fn the_search_finds_the_cheapest_of_every_single_plan() {
+    let extents = [(1..=2, 1..=3), (3..=3, 1..=2)];
     let mut plans = 0;
     for case in 0..300 {
-        let extent = Extent { relations: 1..=3, sites: 1..=3 };
+        let (relations, sites) = extents[case as usize % 2].clone();
+        let extent = Extent { relations, sites };
         let query = queries::query(&mut Random::for_case(14, case), &extent);
+        let results = 2 * query.relations.len() - 1;
         let mut least = None;
-        exhaustive::every_plan(&query, &mut |steps, cost| {
+        exhaustive::every_plan(&query, results * query.sites.len(), &mut |steps, cost| {
             assert_eq!(check::check(&query, &step::plan_bytes(steps)), Ok(cost));
             least = Some(least.map_or(cost, |least: Charge| least.min(cost)));
             plans += 1;
@@ -74,13 +78,14 @@ fn the_search_refuses_what_it_cannot_keep() {
     assert!(!refused(pinned::star(4), 8));
 }
 
-/// One relation at two sites: nothing held, or it at home, or sent to the other site.
-/// Two relations at one site: nothing, either, both in either order, or joined, which
-/// counts twice because a larger result may have been sent.
+/// One relation at two sites: nothing held, or it at home, bare or sent, or at the other site.
+/// Two relations at one site: nothing, either, both in either order, or joined. At two sites
+/// each relation has three forms, and the two joined have four.
 #[test]
 fn the_stacks_of_the_smallest_queries() {
-    assert_eq!(exhaustive::stacks(&pinned::uniform(pinned::chain(1), 2)), 3);
-    assert_eq!(exhaustive::stacks(&pinned::uniform(pinned::chain(2), 1)), 7);
+    assert_eq!(exhaustive::stacks(&pinned::uniform(pinned::chain(1), 2)), 1 + 3);
+    assert_eq!(exhaustive::stacks(&pinned::uniform(pinned::chain(2), 1)), 1 + 2 + 2 + 1);
+    assert_eq!(exhaustive::stacks(&pinned::uniform(pinned::chain(2), 2)), 1 + 6 + 2 * 9 + 4);
     let five = exhaustive::stacks(&pinned::uniform(pinned::chain(5), 8));
     assert!(five <= exhaustive::MOST_STACKS, "{five}");
 }
