@@ -86,8 +86,8 @@ fn search(query: &Query) -> Option<Charge> {
         if reached.get(&stack).is_some_and(|&least| least < cost) {
             continue;
         }
+        let mut next = stack.clone();
         for &step in &steps {
-            let mut next = stack.clone();
             let Ok(price) = next.step(query, step) else {
                 continue;
             };
@@ -96,6 +96,7 @@ fn search(query: &Query) -> Option<Charge> {
                 reached.insert(next.clone(), next_cost);
                 waiting.push(Reverse((next_cost, next)));
             }
+            next = stack.clone();
         }
     }
     None

@@ -6,6 +6,14 @@ use crate::query::{Line, Query, Relation, Site};
 use crate::tree::{self, Join};
 use crate::units::{Bytes, Charge, Rate};
 
+/// A query with its cheapest plan and what that costs, worked out by hand.
+pub struct Worked {
+    pub what: &'static str,
+    pub query: Query,
+    pub plan: Vec<u8>,
+    pub cost: u64,
+}
+
 /// Q of docs/RULES.md, 10.1.
 pub fn q() -> Query {
     Query::new(
@@ -174,19 +182,19 @@ pub fn star(n: usize) -> Vec<Join> {
     (1..n).map(|second| Join { first: 0, second }).collect()
 }
 
-fn equal_sites(count: usize, fixed: u64, rate: u64) -> Vec<Site> {
+pub fn equal_sites(count: usize, fixed: u64, rate: u64) -> Vec<Site> {
     vec![Site { may_join: true, fixed: Charge(fixed), rate: Rate(rate) }; count]
 }
 
-fn equal_lines(sites: usize, fixed: u64, rate: u64) -> Vec<Line> {
+pub fn equal_lines(sites: usize, fixed: u64, rate: u64) -> Vec<Line> {
     let line = Line { open: true, fixed: Charge(fixed), rate: Rate(rate) };
     vec![line; sites * (sites - 1)]
 }
 
-fn homes(homes: &[usize]) -> Vec<Relation> {
+pub fn homes(homes: &[usize]) -> Vec<Relation> {
     homes.iter().map(|&home| Relation { home, index: false }).collect()
 }
 
-fn sizes(sizes: &[u64]) -> Vec<Bytes> {
+pub fn sizes(sizes: &[u64]) -> Vec<Bytes> {
     sizes.iter().map(|&size| Bytes(size)).collect()
 }

@@ -1,11 +1,12 @@
 //! Fixed lists of calls for the places of the rules that are easily misread: state
 //! before input, what a refusal leaves standing, wide arguments, every refusal of check
-//! with its place; sizes at and beside full parcels; two indexes.
+//! with its place; sizes at and beside full parcels; two indexes; routes.
 
 use crate::encode::encode;
-use crate::limits::{LONGEST_PLAN, MOST_CELLS, MOST_FIXED, MOST_RATE, MOST_SIZE};
-use crate::pinned;
+use crate::limits::{LONGEST_PLAN, MOST_CELLS, MOST_FIXED, MOST_RATE, MOST_SIZE, MOST_STEPS};
+use crate::pinned::{self, Worked};
 use crate::pinned_indexes;
+use crate::pinned_routes;
 use crate::planner::Link;
 use crate::query::{Line, Query, Relation, Site};
 use crate::script::Call;
@@ -24,6 +25,9 @@ pub fn lists() -> Vec<Vec<Call>> {
         dearest(),
         parcels(),
         two_indexes(),
+        routes(),
+        home_again(),
+        chains_of_sends(),
     ]
 }
 
@@ -56,7 +60,7 @@ fn nothing_loaded() -> Vec<Call> {
     vec![
         SOLVE,
         solve(0, 0),
-        solve(0, 69),
+        solve(0, LONGEST_PLAN as u32),
         solve(4_096, 0),
         check(&[]),
         check(&[1, 1, 0]),
@@ -138,24 +142,27 @@ fn no_route() -> Vec<Call> {
         load(&pinned::q()),
         solve(9, 9),
         link(1, 0, 0, 1, 1),
-        solve(4_096, 13),
+        solve(4_096, 11),
         link(2, 0, 0, 1, 1),
-        solve(8_192, 69),
+        solve(8_192, LONGEST_PLAN as u32),
         solve(9, 0),
         check(&[4, 1, 0, 1, 1, 2, 0, 3, 0]),
         link(2, 0, 1, 1, 1),
-        solve(9, 13),
+        solve(9, 11),
     ]
 }
 
 /// Every refusal of check on Q, and plans that are allowed without being cheapest.
 fn checks() -> Vec<Call> {
-    let plans: [&[u8]; 33] = [
+    let plans: [&[u8]; 35] = [
         &[4, 1, 0, 1, 1, 2, 0, 3, 0],
         &[4, 1, 1, 2, 0, 1, 0, 3, 0],
         &[5, 1, 0, 2, 1, 1, 1, 3, 0, 2, 0],
         &[6, 1, 0, 2, 2, 1, 1, 2, 2, 3, 0, 2, 0],
-        // 7: empty, count 0, cut, longer, more than 34 steps
+        // A send after a send, to another site and home again
+        &[5, 1, 1, 2, 2, 2, 0, 1, 0, 3, 0],
+        &[6, 1, 0, 2, 1, 2, 0, 1, 1, 2, 0, 3, 0],
+        // 7: empty, count 0, cut, longer, more steps than a plan may have
         &[],
         &[0],
         &[1],
@@ -163,7 +170,7 @@ fn checks() -> Vec<Call> {
         &[1, 1, 0, 1],
         &[2, 1, 0],
         &[255, 1, 0],
-        &[35; 71],
+        &[MOST_STEPS as u8 + 1; LONGEST_PLAN + 2],
         // 8: kinds, arguments, and before any other fault of the step
         &[1, 0, 0],
         &[1, 4, 0],
@@ -176,10 +183,10 @@ fn checks() -> Vec<Call> {
         // 9
         &[2, 1, 0, 1, 0],
         &[5, 1, 0, 1, 1, 2, 0, 3, 0, 1, 1],
-        // 10: nothing held, to the same site, after a send
+        // 10: nothing held, to the same site, before and after a send
         &[1, 2, 0],
         &[2, 1, 0, 2, 0],
-        &[3, 1, 0, 2, 1, 2, 2],
+        &[3, 1, 0, 2, 1, 2, 1],
         // 11: fewer than two held, two sites
         &[1, 3, 0],
         &[2, 1, 0, 3, 0],
@@ -222,8 +229,9 @@ fn alone() -> Vec<Call> {
     ]
 }
 
-/// A chain of nine with every amount at its limit, and a plan of 34 steps that costs
-/// all that a plan can: 26,125,025,000,000.
+/// A chain of nine with every amount at its limit, and a plan of all the steps that a plan can
+/// have, which costs all that one can: no read is spared, and the result is sent away and back
+/// again until no step is left.
 pub fn dearest_plan() -> (Query, Vec<Step>) {
     let site = Site { may_join: true, fixed: Charge(MOST_FIXED), rate: Rate(MOST_RATE) };
     let line = Line { open: true, fixed: Charge(MOST_FIXED), rate: Rate(MOST_RATE) };
@@ -240,6 +248,9 @@ pub fn dearest_plan() -> (Query, Vec<Step>) {
         steps.extend([Step::Join { join }, Step::Send { to: next }]);
         at = next;
     }
+    while steps.len() < MOST_STEPS {
+        steps.extend([1, 0].map(|to| Step::Send { to }));
+    }
     (query, steps)
 }
 
@@ -247,7 +258,7 @@ fn dearest() -> Vec<Call> {
     let (query, steps) = dearest_plan();
     let plan = step::plan_bytes(&steps);
     let one_more = step::plan_bytes(&[&steps[..], &[Step::Send { to: 1 }]].concat());
-    vec![load(&query), check(&plan), check(&plan[..68]), check(&one_more), SOLVE]
+    vec![load(&query), check(&plan), check(&plan[..LONGEST_PLAN - 1]), check(&one_more), SOLVE]
 }
 
 /// A send of each size, solved and checked: of a relation, before and after a link that
@@ -274,6 +285,45 @@ fn two_indexes() -> Vec<Call> {
         calls.push(load(&worked.query));
         calls.push(check(&[3, 1, 1, 1, 0, 3, 0]));
         calls.push(check(&[6, 1, 0, 2, 1, 1, 1, 2, 1, 3, 0, 2, 0]));
+    }
+    calls
+}
+
+/// Each query solved, and its cheapest plan checked.
+fn routes() -> Vec<Call> {
+    let calls = |worked: Worked| [load(&worked.query), SOLVE, check(&worked.plan)];
+    pinned_routes::worked().into_iter().flat_map(calls).collect()
+}
+
+/// Relation 0 of 100 bytes has an index, lines are free, and a join takes 2 + 1 x (what is read +
+/// 3): 9, and 109 once relation 0 was away, if only for a moment or for many.
+pub fn home_again() -> Vec<Call> {
+    let mut query = pinned::q();
+    query.relations = vec![Relation { home: 0, index: true }, Relation { home: 0, index: false }];
+    query.sizes = [100, 4, 3].map(Bytes).to_vec();
+    query.lines = pinned::equal_lines(3, 0, 0);
+    let plan = |sends: &[usize]| {
+        let sends = sends.iter().map(|&to| Step::Send { to });
+        let loaded = [Step::Load { relation: 0 }].into_iter().chain(sends);
+        let joined = [Step::Load { relation: 1 }, Step::Join { join: 0 }];
+        check(&step::plan_bytes(&loaded.chain(joined).collect::<Vec<_>>()))
+    };
+    vec![load(&query), SOLVE, plan(&[]), plan(&[1, 0]), plan(&[1, 2, 0]), plan(&[1, 0].repeat(66))]
+}
+
+/// One relation, sent as often as this: from once to as often as a plan has steps, and once more;
+/// then to where it stands, at one place after another.
+pub fn chains_of_sends() -> Vec<Call> {
+    let chain = |sends: usize| {
+        let sends = (1..=sends).map(|number| Step::Send { to: number % 2 });
+        [Step::Load { relation: 0 }].into_iter().chain(sends).collect::<Vec<_>>()
+    };
+    let mut calls = vec![load(&pinned::sent(8))];
+    calls.extend((1..=MOST_STEPS).map(|sends| check(&step::plan_bytes(&chain(sends)))));
+    for place in 1..MOST_STEPS - 1 {
+        let mut steps = chain(MOST_STEPS - 2);
+        steps.insert(place, steps[place]);
+        calls.push(check(&step::plan_bytes(&steps)));
     }
     calls
 }

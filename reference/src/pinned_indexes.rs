@@ -2,16 +2,9 @@
 //! both operands of a join qualify, the smaller is read.
 
 use crate::limits::MOST_SIZE;
-use crate::pinned;
+use crate::pinned::{self, Worked};
 use crate::query::{Query, Relation, Site};
 use crate::units::{Bytes, Charge, Rate};
-
-pub struct Worked {
-    pub what: &'static str,
-    pub query: Query,
-    pub plan: Vec<u8>,
-    pub cost: u64,
-}
 
 /// The plan that joins relations 0 and 1 where they stand.
 const WHERE_THEY_STAND: [u8; 7] = [3, 1, 0, 1, 1, 3, 0];

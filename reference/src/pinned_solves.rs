@@ -2,7 +2,7 @@
 //! cells around what is needed, and what may stand between two solves.
 
 use crate::encode::encode;
-use crate::limits::MOST_SIZE;
+use crate::limits::{LONGEST_PLAN, MOST_SIZE};
 use crate::pinned;
 use crate::pinned_calls::{check, link, load, load_file, solve};
 use crate::query::{Line, Query, Relation, Site};
@@ -12,11 +12,14 @@ use crate::sets::{self, Set};
 use crate::tree::{self, Join};
 use crate::units::{Bytes, Charge, Rate};
 
+/// An output that every plan fits.
+const LONGEST: u32 = LONGEST_PLAN as u32;
+
 pub fn lists() -> Vec<Vec<Call>> {
     vec![output_lengths(), cells(), needs(), need_in_force(), between_two_solves()]
 }
 
-/// A row of docs/RULES.md, 10.3: Q is row 1, with a plan of 9 bytes; row 5 has one of 13,
+/// A row of docs/RULES.md, 10.3: Q is row 1, with a plan of 9 bytes; row 5 has one of 11,
 /// and row 6 has no route.
 fn row(number: usize) -> Query {
     pinned::rows().swap_remove(number - 1).0
@@ -26,24 +29,29 @@ fn row(number: usize) -> Query {
 /// there is, beside its own.
 pub fn output_lengths() -> Vec<Call> {
     let mut calls = Vec::new();
-    for (number, most) in [(1, 10), (5, 14), (6, 14)] {
+    for (number, most) in [(1, 10), (5, 12), (6, 12)] {
         calls.push(load(&row(number)));
         calls.extend((0..=most).map(|output| solve(9, output)));
     }
     calls.push(load(&longest_plan()));
-    calls.extend([68, 69, 70].map(|output| solve(360, output)));
+    calls.extend([LONGEST - 1, LONGEST, LONGEST + 1].map(|output| solve(360, output)));
     calls
 }
 
 /// The query of examples/longest-plan.txt, whose plan has all the steps that a plan can have:
-/// lines are free, the first relations together grow fourfold with each join, and each join
-/// is cheapest at the next site.
+/// the first relations together grow fourfold with each join, and each join is cheapest at the
+/// next site. Lines are free and lead from each site to the one below it alone, and from site 0
+/// to site 7. So what is sent to the next site takes seven sends, and each relation starts at
+/// the site below the one where it is joined.
 pub fn longest_plan() -> Query {
     let terms =
         [(0, 7), (10, 6), (50, 5), (210, 4), (850, 3), (3_410, 2), (13_650, 1), (54_610, 0)];
     let site = |(fixed, rate)| Site { may_join: true, fixed: Charge(fixed), rate: Rate(rate) };
     let relation = |home| Relation { home, index: false };
-    let free = Line { open: true, fixed: Charge(0), rate: Rate(0) };
+    let line = |(sender, receiver)| {
+        let open = receiver == (sender + 7) % 8;
+        Line { open, fixed: Charge(0), rate: Rate(0) }
+    };
     let size = |&subquery: &Set| match sets::count(subquery) as u32 {
         1 => Bytes(1),
         count if sets::holds(subquery, 0) => Bytes(4u64.pow(count - 1)),
@@ -52,10 +60,10 @@ pub fn longest_plan() -> Query {
     let joins = pinned::chain(9);
     Query::new(
         terms.map(site).to_vec(),
-        [7, 7, 7, 7, 7, 7, 7, 7, 0].map(relation).to_vec(),
+        [7, 7, 0, 1, 2, 3, 4, 5, 6].map(relation).to_vec(),
         joins.clone(),
         tree::subqueries(&joins, 9).iter().map(size).collect(),
-        vec![free; 56],
+        Query::line_ends(8).map(line).collect(),
         0,
     )
 }
@@ -85,7 +93,7 @@ pub fn needs() -> Vec<Call> {
     let mut calls = Vec::new();
     for (query, need) in one_to_eight.chain(nine).zip((1..=8).chain([360, 2_112])) {
         calls.push(load(&query));
-        calls.extend([need - 1, need, need + 1, 4_096].map(|cells| solve(cells, 69)));
+        calls.extend([need - 1, need, need + 1, 4_096].map(|cells| solve(cells, LONGEST)));
     }
     calls
 }
@@ -108,8 +116,8 @@ pub fn need_in_force() -> Vec<Call> {
     let file = encode(&chain);
     vec![
         load(&chain),
-        solve(9, 69),
-        solve(359, 69),
+        solve(9, LONGEST),
+        solve(359, LONGEST),
         solve(360, 37),
         load(&q),
         solve(9, 9),
@@ -118,13 +126,13 @@ pub fn need_in_force() -> Vec<Call> {
         Call::Room(Draft::of(&chain)),
         solve(9, 9),
         link(1, 0, 0, 1, 1),
-        solve(8, 13),
-        solve(9, 13),
+        solve(8, 11),
+        solve(9, 11),
         load(&chain),
-        solve(9, 69),
+        solve(9, LONGEST),
         load_file(encode(&q)[..106].to_vec()),
         Call::Room(Draft::of(&q)),
-        solve(9, 69),
+        solve(9, LONGEST),
         solve(360, 37),
     ]
 }
@@ -147,10 +155,10 @@ pub fn between_two_solves() -> Vec<Call> {
         solve(4_096, 9),
         link(1, 0, 0, 1, 1),
         solve(4_096, 9),
-        solve(9, 13),
+        solve(9, 11),
         check(&best),
         link(2, 0, 0, 1, 1),
-        solve(9, 13),
+        solve(9, 11),
         load(&q),
         solve(9, 9),
     ]

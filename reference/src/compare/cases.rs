@@ -50,9 +50,13 @@ pub fn random_sweep(seed: u64, case: u64) -> Vec<Vec<u8>> {
     sweep(&queries::query(&mut random, &Extent::full()).into())
 }
 
-/// One random ordinary file, whole or damaged; two of five are small enough to search.
+/// One random ordinary file, whole or damaged; half are small enough to search.
 pub fn random_file(seed: u64, case: u64) -> Vec<u8> {
     let mut random = Random::for_case(seed, case);
-    let extent = if random.percent(40) { Extent::small() } else { Extent::full() };
+    let extent = match random.below(10) {
+        0..=2 => Extent::small(),
+        3 | 4 => Extent::wide(),
+        _ => Extent::full(),
+    };
     damage::file(&mut random, &extent, Form::Sizes)
 }

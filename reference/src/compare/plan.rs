@@ -71,7 +71,7 @@ pub fn compare(
 /// The cheapest cost by exhaustive search, for a query that is searched at once.
 fn searched(file: &[u8]) -> Option<Option<u64>> {
     let query = decode::decode(file, Form::Sizes).ok()?.query;
-    if !Extent::small().fits(&query) {
+    if ![Extent::small(), Extent::wide()].iter().any(|extent| extent.fits(&query)) {
         return None;
     }
     let cheapest = exhaustive::cheapest(&query).expect("a small query is searched");

@@ -19,9 +19,10 @@ use crate::stated::Form;
 /// A list of calls from an empty planner.
 pub fn calls(random: &mut Random, length: usize) -> Vec<Call> {
     let mut standing = Standing::empty();
-    let extent = match random.below(3) {
+    let extent = match random.below(4) {
         0 => Extent::small(),
-        1 => Extent { relations: 1..=6, sites: 1..=5 },
+        1 => Extent::wide(),
+        2 => Extent { relations: 1..=6, sites: 1..=5 },
         _ => Extent::full(),
     };
     let mut calls = Vec::new();
@@ -119,7 +120,7 @@ fn output_length(random: &mut Random, standing: &Standing) -> u32 {
     let shorter = random.below(length as usize) as u32;
     let longer = length + random.below(100) as u32;
     let longest = LONGEST_PLAN as u32;
-    let long = if random.percent(5) { 5_000 } else { 256 };
+    let long = if random.percent(5) { 5_000 } else { longest + 1 };
     let enough = [length, length, length, length + 1, longer, longest, long];
     let short = [length - 1, shorter, 0, 1];
     let lengths = if random.percent(65) { &enough[..] } else { &short };

@@ -1,6 +1,6 @@
 //! Plans to check: allowed ones, cheapest or not, and ones that are nearly allowed.
 
-use crate::limits::MOST_STEPS;
+use crate::limits::{LONGEST_PLAN, MOST_STEPS};
 use crate::query::Query;
 use crate::random::Random;
 use crate::rules::Stack;
@@ -8,13 +8,17 @@ use crate::sets::{self, Set};
 use crate::step::{self, Step};
 use crate::tree;
 
+/// A send in a random plan goes on to any other site until it is where it is wanted, but no
+/// result is sent more often.
+const MOST_SENDS: usize = 12;
+
 /// Some allowed plan, if a few attempts find one.
 pub fn allowed(random: &mut Random, query: &Query) -> Option<Vec<Step>> {
     let all = sets::everything(query.relations.len());
     (0..8).find_map(|_| {
         let mut steps = Vec::new();
         deliver(random, query, all, query.delivery, &mut steps)?;
-        Some(steps)
+        (steps.len() <= MOST_STEPS).then_some(steps)
     })
 }
 
@@ -24,12 +28,13 @@ pub fn to_check(random: &mut Random, query: &Query, plan: Option<&[Step]>) -> Ve
         Some(steps) if random.percent(60) => Some(steps.to_vec()),
         _ => allowed(random, query),
     };
-    match (random.below(10), near) {
+    match (random.below(12), near) {
         (0 | 1, Some(steps)) => step::plan_bytes(&steps),
         (2 | 3, Some(steps)) => step::plan_bytes(&steps_changed(random, query, steps)),
         (4 | 5, Some(steps)) => bytes_changed(random, step::plan_bytes(&steps)),
-        (6 | 7, _) => step::plan_bytes(&wandering(random, query)),
-        (8, _) => step::plan_bytes(&random_steps(random, query)),
+        (6 | 7, Some(steps)) => step::plan_bytes(&with_tours(random, query, steps)),
+        (8 | 9, _) => step::plan_bytes(&wandering(random, query)),
+        (10, _) => step::plan_bytes(&random_steps(random, query)),
         (_, _) => random_bytes(random),
     }
 }
@@ -47,26 +52,48 @@ fn deliver(
         steps.push(Step::Load { relation });
         query.relations[relation].home
     } else {
-        join_somewhere(random, query, set, to, steps)?
+        join_somewhere(random, query, set, steps)?
     };
-    if from != to {
-        if !query.line(from, to).open {
-            return None;
+    send_on(random, query, from, to, steps)
+}
+
+/// Sends over open lines from one site to the other; the line between them is taken half the
+/// time.
+fn send_on(
+    random: &mut Random,
+    query: &Query,
+    from: usize,
+    to: usize,
+    steps: &mut Vec<Step>,
+) -> Option<()> {
+    let mut at = from;
+    for _ in 0..MOST_SENDS {
+        if at == to {
+            return Some(());
         }
-        steps.push(Step::Send { to });
+        let open: Vec<usize> =
+            others(query, at).filter(|&next| query.line(at, next).open).collect();
+        at = match open[..] {
+            [] => return None,
+            _ if open.contains(&to) && random.percent(50) => to,
+            _ => random.pick(&open),
+        };
+        steps.push(Step::Send { to: at });
     }
-    Some(())
+    (at == to).then_some(())
+}
+
+fn others(query: &Query, site: usize) -> impl Iterator<Item = usize> {
+    (0..query.sites.len()).filter(move |&other| other != site)
 }
 
 fn join_somewhere(
     random: &mut Random,
     query: &Query,
     set: Set,
-    to: usize,
     steps: &mut Vec<Step>,
 ) -> Option<usize> {
-    let reaches = |&at: &usize| query.sites[at].may_join && (at == to || query.line(at, to).open);
-    let sites: Vec<usize> = (0..query.sites.len()).filter(reaches).collect();
+    let sites: Vec<usize> = (0..query.sites.len()).filter(|&at| query.sites[at].may_join).collect();
     let inside = |&join: &usize| query.joins()[join].within(set);
     let joins: Vec<usize> = (0..query.joins().len()).filter(inside).collect();
     if sites.is_empty() {
@@ -80,6 +107,40 @@ fn join_somewhere(
     }
     steps.push(Step::Join { join });
     Some(at)
+}
+
+/// The plan with sends away and back again behind one of its steps, so that a relation may be
+/// home again before its join: a few, or up to the limit of steps and beyond it. Now and then a
+/// send among them is to where the result stands.
+fn with_tours(random: &mut Random, query: &Query, mut steps: Vec<Step>) -> Vec<Step> {
+    let place = random.below(steps.len());
+    let Some(at) = top_after(query, &steps[..=place]) else {
+        return steps;
+    };
+    let both_open = |&away: &usize| query.line(at, away).open && query.line(away, at).open;
+    let away: Vec<usize> = others(query, at).filter(both_open).collect();
+    if away.is_empty() {
+        return steps;
+    }
+    let room = MOST_STEPS.saturating_sub(steps.len()) / 2;
+    let tours = random.pick(&[1, 1, 2, room / 2, room, room + 1]);
+    let tour = |_| [random.pick(&away), at].map(|to| Step::Send { to });
+    let mut sends: Vec<Step> = (0..tours).flat_map(tour).collect();
+    if random.percent(10) && !sends.is_empty() {
+        let place = random.below(sends.len());
+        sends.insert(place, sends[place]);
+    }
+    steps.splice(place + 1..place + 1, sends);
+    steps
+}
+
+/// Where the top stands after these steps, if they are allowed.
+fn top_after(query: &Query, steps: &[Step]) -> Option<usize> {
+    let mut stack = Stack::default();
+    for &step in steps {
+        stack.step(query, step).ok()?;
+    }
+    stack.held.last().map(|top| top.site)
 }
 
 /// Mostly steps that the rules allow, broken off anywhere.
@@ -131,14 +192,15 @@ fn steps_changed(random: &mut Random, query: &Query, mut steps: Vec<Step>) -> Ve
 /// One byte changed, the plan cut or longer, or another count.
 fn bytes_changed(random: &mut Random, mut plan: Vec<u8>) -> Vec<u8> {
     let place = random.below(plan.len());
+    let most = MOST_STEPS as u8;
     match random.below(6) {
         0 => plan[place] = random.number() as u8,
         1 => plan[place] = plan[place].wrapping_add(random.pick(&[1, 255])),
-        2 => plan[0] = random.pick(&[0, 34, 35, 255]),
+        2 => plan[0] = random.pick(&[0, most, most + 1, 255]),
         3 => plan.truncate(place),
         4 => plan.push(random.number() as u8),
         _ => {
-            let count = random.pick(&[34, 35, 36, 128]);
+            let count = random.pick(&[most, most + 1, most + 2, 255]);
             plan[0] = count;
             plan.resize(1 + 2 * usize::from(count), 1);
         }
@@ -148,7 +210,7 @@ fn bytes_changed(random: &mut Random, mut plan: Vec<u8>) -> Vec<u8> {
 
 /// Random bytes, half the time with a count that fits and kinds that may be known.
 fn random_bytes(random: &mut Random) -> Vec<u8> {
-    let length = random.between(0, 80) as usize;
+    let length = random.below(LONGEST_PLAN + 10);
     let mut plan: Vec<u8> = (0..length).map(|_| random.number() as u8).collect();
     if random.percent(50) && length > 0 {
         plan.truncate(1 + 2 * ((length - 1) / 2));

@@ -1,10 +1,13 @@
 //! Random valid queries: chains, stars and random trees, with amounts from all alike
-//! (many ties) to the limits.
+//! (many ties) to the limits, and with lines of all kinds.
 
 use std::ops::RangeInclusive;
 
+use crate::generate::amounts::{Amounts, Mood};
+use crate::generate::far;
+use crate::generate::lines;
 use crate::limits::{MOST_FIXED, MOST_RATE, MOST_RELATIONS, MOST_SITES, MOST_SIZE, PARCEL};
-use crate::query::{Line, Query, Relation, Site};
+use crate::query::{Query, Relation, Site};
 use crate::random::Random;
 use crate::tree::{self, Join};
 use crate::units::{Bytes, Charge, Rate};
@@ -27,6 +30,11 @@ impl Extent {
         Extent { relations: 1..=4, sites: 1..=3 }
     }
 
+    /// What it does as soon, with sites for routes of many sends.
+    pub fn wide() -> Extent {
+        Extent { relations: 1..=3, sites: 4..=8 }
+    }
+
     pub fn fits(&self, query: &Query) -> bool {
         self.relations.contains(&(query.relations.len() as u64))
             && self.sites.contains(&(query.sites.len() as u64))
@@ -44,61 +52,14 @@ impl Shape {
     pub const ALL: [Shape; 3] = [Shape::Chain, Shape::Star, Shape::Tree];
 }
 
-/// Whether all kinds of amounts in a query are such that many plans cost the same.
-#[derive(Clone, Copy, Debug, PartialEq, Eq)]
-enum Mood {
-    Ties,
-    Mixed,
-}
-
-/// Where the amounts of one kind lie in one query.
-#[derive(Clone, Copy, Debug)]
-enum Amounts {
-    Zero,
-    /// One value for all.
-    Alike(u64),
-    UpTo(u64),
-    /// All orders of magnitude up to the limit.
-    Spread,
-    /// The limit, one below it, or 0.
-    AtLimit,
-}
-
-impl Amounts {
-    fn choose(random: &mut Random, limit: u64, mood: Mood) -> Amounts {
-        if mood == Mood::Ties {
-            return random.pick(&[
-                Amounts::Zero,
-                Amounts::Alike(1),
-                Amounts::Alike(1),
-                Amounts::UpTo(1),
-            ]);
-        }
-        match random.below(10) {
-            0 => Amounts::Zero,
-            1 => Amounts::Alike(random.between(0, 3)),
-            2 => Amounts::Alike(random.spread(limit)),
-            3 => Amounts::UpTo(1),
-            4 | 5 => Amounts::UpTo(3),
-            6 => Amounts::UpTo(20.min(limit)),
-            7 => Amounts::UpTo(100.min(limit)),
-            8 => Amounts::Spread,
-            _ => Amounts::AtLimit,
-        }
-    }
-
-    fn draw(self, random: &mut Random, limit: u64) -> u64 {
-        match self {
-            Amounts::Zero => 0,
-            Amounts::Alike(value) => value,
-            Amounts::UpTo(most) => random.between(0, most),
-            Amounts::Spread => random.spread(limit),
-            Amounts::AtLimit => random.pick(&[limit, limit, limit - 1, 0]),
-        }
-    }
-}
-
+/// Now and then one with a long plan, where the extent has room for it.
 pub fn query(random: &mut Random, extent: &Extent) -> Query {
+    if random.percent(3) {
+        let far = far::query(random);
+        if extent.fits(&far) {
+            return far;
+        }
+    }
     let (joins, s) = drawn(random, extent);
     with_joins(random, joins, s)
 }
@@ -129,7 +90,7 @@ fn in_mood(random: &mut Random, joins: Vec<Join>, s: usize, mood: Mood) -> Query
     let sites = sites(random, s, mood);
     let relations = relations(random, n, s);
     let sizes = sizes(random, subqueries, mood);
-    let lines = lines(random, s, mood);
+    let lines = lines::lines(random, s, mood);
     Query::new(sites, relations, joins, sizes, lines, random.below(s))
 }
 
@@ -203,16 +164,4 @@ fn sizes(random: &mut Random, count: usize, mood: Mood) -> Vec<Bytes> {
 /// The size, or a byte less or more, within the limits.
 fn beside(random: &mut Random, size: u64) -> Bytes {
     Bytes((size + random.between(0, 2)).saturating_sub(1).min(MOST_SIZE))
-}
-
-fn lines(random: &mut Random, sites: usize, mood: Mood) -> Vec<Line> {
-    let open = random.pick(&[100, 100, 75, 50, 25]);
-    let fixed = Amounts::choose(random, MOST_FIXED, mood);
-    let rate = Amounts::choose(random, MOST_RATE, mood);
-    let line = |_| Line {
-        open: random.percent(open),
-        fixed: Charge(fixed.draw(random, MOST_FIXED)),
-        rate: Rate(rate.draw(random, MOST_RATE)),
-    };
-    (0..sites * (sites - 1)).map(line).collect()
 }
