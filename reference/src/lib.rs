@@ -46,3 +46,4 @@ pub mod tables;
 pub mod text;
 pub mod tree;
 pub mod units;
+pub mod wrong_routes;

@@ -50,10 +50,27 @@ pub enum Method {
     AskedSiteFirst,
     /// Writes the part with the lowest relation first.
     LowerPartFirst,
+    /// Takes each line for the only route.
+    DirectLineOnly,
+    /// Knows no route of as many sends as there are other sites.
+    OneSendFewer,
+    /// Weighs each line once, in the order of the sites.
+    LinesWeighedOnce,
+    /// Chooses a result's route by the size of its lowest relation.
+    RoutedByAPart,
+    /// Among equal routes takes the one of most sends.
+    MostSends,
+    /// Among equal routes takes the lowest sites from the receiver back.
+    LowestFromReceiver,
+    /// Writes only the last send of a route.
+    LastStopOnly,
+    /// Among equal sites takes the one with the fewest sends.
+    FewestSendsSite,
 }
 
 impl Method {
-    /// The planners that nearly work of docs/RULES.md, 11, but for those that read otherwise.
+    /// The planners that nearly work of docs/RULES.md, 11, but for those that read or route
+    /// otherwise.
     pub const NEARLY_WORKING: [Method; 9] = [
         Method::OnlyHomes,
         Method::SingleOperand,
@@ -77,14 +94,36 @@ impl Method {
         Method::EqualBothSpared,
     ];
 
+    /// Those that take dearer routes: 11.10.
+    pub const ROUTED_OTHERWISE: [Method; 4] = [
+        Method::DirectLineOnly,
+        Method::OneSendFewer,
+        Method::LinesWeighedOnce,
+        Method::RoutedByAPart,
+    ];
+
     /// Ways that cost the same and write another plan.
     pub const OTHERWISE_WRITTEN: [Method; 4] =
         [Method::HighestSite, Method::HighestJoin, Method::AskedSiteFirst, Method::LowerPartFirst];
 
+    /// Ways that cost the same and write other sends: 11.10.
+    pub const OTHERWISE_SENT: [Method; 4] = [
+        Method::MostSends,
+        Method::LowestFromReceiver,
+        Method::LastStopOnly,
+        Method::FewestSendsSite,
+    ];
+
     /// All wrong ways.
     pub fn wrong() -> impl Iterator<Item = Method> {
         let by_cost = Method::NEARLY_WORKING.into_iter().chain(Method::READ_OTHERWISE);
-        by_cost.chain(Method::OTHERWISE_WRITTEN)
+        let by_cost = by_cost.chain(Method::ROUTED_OTHERWISE);
+        by_cost.chain(Method::OTHERWISE_WRITTEN).chain(Method::OTHERWISE_SENT)
+    }
+
+    /// It costs what the cheapest plan costs, and only the steps tell it apart.
+    pub fn costs_the_same(self) -> bool {
+        Method::OTHERWISE_WRITTEN.contains(&self) || Method::OTHERWISE_SENT.contains(&self)
     }
 
     /// What sending a result of this size over the line costs.
@@ -144,6 +183,14 @@ impl Method {
             Method::HighestJoin => "highest-join",
             Method::AskedSiteFirst => "asked-site-first",
             Method::LowerPartFirst => "lower-part-first",
+            Method::DirectLineOnly => "direct-line-only",
+            Method::OneSendFewer => "one-send-fewer",
+            Method::LinesWeighedOnce => "lines-weighed-once",
+            Method::RoutedByAPart => "routed-by-a-part",
+            Method::MostSends => "most-sends",
+            Method::LowestFromReceiver => "lowest-from-receiver",
+            Method::LastStopOnly => "last-stop-only",
+            Method::FewestSendsSite => "fewest-sends-site",
         }
     }
 

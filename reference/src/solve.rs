@@ -39,9 +39,13 @@ fn write_delivered(tables: &Tables, subquery: Set, to: usize, steps: &mut Vec<St
     } else {
         write_joined(tables, subquery, from, steps);
     }
-    let route = tables.routes(subquery, from).swap_remove(to);
-    let stops = route.map_or(Vec::new(), |route| route.stops);
-    steps.extend(stops.into_iter().map(|to| Step::Send { to }));
+    if let Some(route) = tables.route(subquery, from, to) {
+        let unwritten = match tables.method {
+            Method::LastStopOnly => route.sends.saturating_sub(1),
+            _ => 0,
+        };
+        steps.extend(route.stops().skip(unwritten).map(|to| Step::Send { to }));
+    }
 }
 
 /// The part with the join's first relation, the other part, and the join.

@@ -4,10 +4,11 @@
 use crate::method::Method;
 use crate::prices::Operand;
 use crate::query::Query;
-use crate::routes::{self, Route};
+use crate::routes::{self, Prices, Route};
 use crate::sets::{self, Set};
 use crate::tree;
 use crate::units::Charge;
+use crate::wrong_routes;
 
 /// A cost or none.
 pub type Cost = Option<Charge>;
@@ -53,13 +54,14 @@ impl<'query> Tables<'query> {
         let sites = 0..self.query.sites.len();
         if sets::count(subquery) == 1 {
             let home = self.query.relations[sets::lowest(subquery)].home;
-            let from_home = |route: &Option<Route>| Entry { cost: carriage(route), by: home };
-            self.delivered[place] = self.routes(subquery, home).iter().map(from_home).collect();
+            let from_home = |&route: &Option<Route>| Entry { cost: carriage(route), by: home };
+            let routes = self.routes(subquery, [home].into_iter());
+            self.delivered[place] = routes[0].iter().map(from_home).collect();
         } else {
             let splits = self.splits(subquery);
             let joined = |at| self.joined_at(subquery, &splits, at);
             self.joined[place] = sites.clone().map(joined).collect();
-            let routes: Vec<_> = sites.clone().map(|from| self.routes(subquery, from)).collect();
+            let routes = self.routes(subquery, sites.clone());
             let delivered = |to| self.delivered_at(subquery, &routes, to);
             self.delivered[place] = sites.map(delivered).collect();
         }
@@ -104,25 +106,42 @@ impl<'query> Tables<'query> {
         let mut best = Entry { cost: None, by: 0 };
         let asked_first = (self.method == Method::AskedSiteFirst).then_some(to);
         for at in asked_first.into_iter().chain(0..self.query.sites.len()) {
-            let cost = self.sum(self.joined(subquery, at).cost, carriage(&routes[at][to]));
-            if self.wins(cost, best.cost, Method::HighestSite) {
+            let cost = self.sum(self.joined(subquery, at).cost, carriage(routes[at][to]));
+            let sends = |at: usize| routes[at][to].map(|route| route.sends);
+            let fewer_sends = cost == best.cost && sends(at) < sends(best.by);
+            if self.wins(cost, best.cost, Method::HighestSite)
+                || self.method == Method::FewestSendsSite && fewer_sends
+            {
                 best = Entry { cost, by: at };
             }
         }
         best
     }
 
-    /// How the subquery's result comes from one site to each.
-    pub fn routes(&self, subquery: Set, from: usize) -> Vec<Option<Route>> {
+    /// How the subquery's result comes from each of these sites to every site.
+    fn routes(&self, subquery: Set, from: impl Iterator<Item = usize>) -> Vec<Vec<Option<Route>>> {
+        let prices = self.prices(subquery);
+        if self.method == Method::RoutedByAPart {
+            let of_a_part = self.prices(sets::single(sets::lowest(subquery)));
+            return from.map(|from| wrong_routes::repriced(from, &of_a_part, &prices)).collect();
+        }
+        from.map(|from| wrong_routes::best_from(self.method, from, &prices)).collect()
+    }
+
+    /// How it comes from one site to another.
+    pub fn route(&self, subquery: Set, from: usize, to: usize) -> Option<Route> {
+        self.routes(subquery, [from].into_iter()).swap_remove(0).swap_remove(to)
+    }
+
+    fn prices(&self, subquery: Set) -> Prices {
         let size = self.query.size(subquery);
-        let price = |sender, receiver| {
+        routes::prices(self.query.sites.len(), |sender, receiver| {
             let line = match self.method {
                 Method::OtherDirection => self.query.line(receiver, sender),
                 _ => self.query.line(sender, receiver),
             };
             line.open.then(|| self.method.send(line, size))
-        };
-        routes::best_from(from, self.query.sites.len(), &price, &Route::lt)
+        })
     }
 
     /// Two parts that were delivered to the site, as the operands of a join there: one that has
@@ -172,8 +191,8 @@ impl<'query> Tables<'query> {
 }
 
 /// What a route costs; none where there is none.
-fn carriage(route: &Option<Route>) -> Cost {
-    route.as_ref().map(|route| route.cost)
+fn carriage(route: Option<Route>) -> Cost {
+    route.map(|route| route.cost)
 }
 
 /// The mistake of a planner that has the largest number for none.

@@ -7,9 +7,10 @@ use std::thread;
 
 use reference::compare::c_call;
 use reference::compare::soak::{soak, Soak};
+use reference::limits::REFUSED;
 
 /// What the call returns for 23.
-const SHORT_OUTPUT: u64 = 256 + 23;
+const SHORT_OUTPUT: u64 = REFUSED + 23;
 
 /// The soak reads the memory of the whole process.
 static ONE_TEST_AT_A_TIME: Mutex<()> = Mutex::new(());
@@ -47,7 +48,7 @@ unsafe extern "C" fn writes_behind(
     output_length: usize,
 ) -> u64 {
     let returned = model(query, query_length, output, output_length);
-    if returned > 0 && returned < 256 {
+    if returned > 0 && returned < REFUSED {
         output.add(returned as usize).write(0);
     }
     returned

@@ -74,7 +74,7 @@ fn links_take_wide_arguments() {
     assert!(lines[17..28].iter().all(|line| line == "refused 3"));
     let costs = lines[28..].iter().filter(|line| line.starts_with("solved"));
     let costs: Vec<&str> = costs.map(|line| line.split(' ').nth(1).unwrap()).collect();
-    assert_eq!(costs, ["21", "21", "26", "26", "19"]);
+    assert_eq!(costs, ["21", "21", "23", "23", "19"]);
 }
 
 #[test]
@@ -84,7 +84,7 @@ fn no_route_leaves_the_output() {
         &solved(9),
         "cells OK",
         "link",
-        "solved 26 13 3 06010002020101020203000200",
+        "solved 23 11 3 0501000101020202000300",
         "cells OK",
         "link",
         "no-route 3",
@@ -95,7 +95,7 @@ fn no_route_leaves_the_output() {
         "output OK",
         "refused 10 2",
         "link",
-        "solved 26 13 3 06010002020101020203000200",
+        "solved 23 11 3 0501000101020202000300",
         "cells OK",
     ];
     assert_eq!(list(3), expected);
@@ -108,6 +108,8 @@ fn check_tells_the_place() {
         "check 21",
         "check 24",
         "check 26",
+        "check 23",
+        "check 27",
         "refused 7",
         "refused 7",
         "refused 7",
@@ -168,7 +170,7 @@ fn one_relation_at_one_site() {
 #[test]
 fn the_dearest_plan() {
     let lines = list(6);
-    assert_eq!(lines[..4], ["load 9 45", "check 26125025000000", "refused 7", "refused 7"]);
+    assert_eq!(lines[..4], ["load 9 45", "check 38875127000000", "refused 7", "refused 7"]);
     assert!(lines[4].starts_with("solved 24000008000000 35 360 1101000101"), "{}", lines[4]);
 }
 

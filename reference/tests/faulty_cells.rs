@@ -20,6 +20,7 @@ use reference::query::Query;
 use reference::random::Random;
 use reference::refusal::Refusal;
 use reference::room;
+use reference::routes::{self, Route};
 use reference::script::Call;
 use reference::sets::{self, Set};
 use reference::solve;
@@ -215,22 +216,43 @@ impl InCells<'_> {
 
     fn fill(&mut self) {
         for &set in self.query.subqueries() {
-            let figures: Vec<u64> =
-                (0..sites(self.query)).map(|to| self.cheapest(set, to).0).collect();
-            for (to, figure) in figures.into_iter().enumerate() {
+            for (to, figure) in self.row(set).into_iter().enumerate() {
                 self.keep(set, to, figure);
             }
         }
     }
 
-    /// Delivered, and from where: worked out from the cells of the parts.
-    fn cheapest(&self, set: Set, to: usize) -> (u64, usize) {
-        if sets::count(set) == 1 {
-            let home = self.query.relations[sets::lowest(set)].home;
-            return (self.carriage(set, home, to), home);
+    /// Delivered at each site, worked out from the cells of the parts: the result made there, or
+    /// sent there from where it was delivered for less.
+    fn row(&self, set: Set) -> Vec<u64> {
+        let mut row: Vec<u64> = (0..sites(self.query)).map(|at| self.made(set, at)).collect();
+        loop {
+            let before = row.clone();
+            for (sender, receiver) in Query::line_ends(sites(self.query)) {
+                let sent = plus(row[sender], self.send(set, sender, receiver));
+                row[receiver] = row[receiver].min(sent);
+            }
+            if row == before {
+                return row;
+            }
         }
-        let from = |at| (plus(self.joined(set, at).0, self.carriage(set, at, to)), at);
-        (0..sites(self.query)).map(from).min().expect("a query has a site")
+    }
+
+    /// What it costs to have the result before any send.
+    fn made(&self, set: Set, at: usize) -> u64 {
+        match sets::count(set) {
+            1 if self.query.relations[sets::lowest(set)].home == at => 0,
+            1 => NONE,
+            _ => self.joined(set, at).0,
+        }
+    }
+
+    /// The site where the result is made that is wanted at another, and its route.
+    fn from(&self, set: Set, to: usize) -> (usize, Option<Route>) {
+        let route = |at| routes::best(self.query, set, at, to);
+        let cost = |&at: &usize| plus(self.made(set, at), route(at).map_or(NONE, |by| by.cost.0));
+        let from = (0..sites(self.query)).min_by_key(cost).expect("a query has a site");
+        (from, route(from))
     }
 
     /// Joined, and by which join.
@@ -259,10 +281,7 @@ impl InCells<'_> {
         }
     }
 
-    fn carriage(&self, set: Set, from: usize, to: usize) -> u64 {
-        if from == to {
-            return 0;
-        }
+    fn send(&self, set: Set, from: usize, to: usize) -> u64 {
         let line = self.query.line(from, to);
         if line.open {
             prices::send(line, self.query.size(set)).0
@@ -272,7 +291,7 @@ impl InCells<'_> {
     }
 
     fn write(&self, set: Set, to: usize, steps: &mut Vec<Step>) {
-        let (_, from) = self.cheapest(set, to);
+        let (from, route) = self.from(set, to);
         if sets::count(set) == 1 {
             steps.push(Step::Load { relation: sets::lowest(set) });
         } else {
@@ -282,9 +301,8 @@ impl InCells<'_> {
             self.write(other, from, steps);
             steps.push(Step::Join { join });
         }
-        if from != to {
-            steps.push(Step::Send { to });
-        }
+        let stops = route.iter().flat_map(Route::stops);
+        steps.extend(stops.map(|to| Step::Send { to }));
     }
 }
 

@@ -91,21 +91,13 @@ fn the_carriers_parcels() {
 
 /// By the parcel and by the byte the cheapest plans differ.
 #[test]
-fn plans_that_parcels_change() {
+fn a_plan_that_parcels_change() {
     let query = pinned::a_parcel_each();
     let expected = "plan 5 cost 28 trials 3\nload 0\nload 1\nsend 0\njoin 0\nsend 2\n";
     assert_eq!(list(&query), expected);
     assert_eq!(exhaustive::cheapest(&query), Ok(Some(Charge(28))));
     let by_the_byte = solve::solve(&query, Method::LinesByTheByte).unwrap();
     assert_eq!((by_the_byte.steps[1], by_the_byte.cost), (Step::Send { to: 2 }, Charge(40)));
-
-    let file = std::fs::read("../examples/star-of-nine.query").unwrap();
-    let star = decode::decode(&file, Form::Sizes).unwrap().query;
-    let (plan, by_the_byte) = [Method::Rules, Method::LinesByTheByte]
-        .map(|method| solve::solve(&star, method).unwrap())
-        .into();
-    assert_eq!((plan.cost, by_the_byte.cost), (Charge(140_071), Charge(216_405)));
-    assert_eq!(check::check(&star, &step::plan_bytes(&by_the_byte.steps)), Ok(Charge(140_534)));
 }
 
 #[test]
@@ -128,7 +120,7 @@ fn a_lower_site_wins_a_tie_over_the_asked_one() {
 }
 
 #[test]
-fn the_dearest_plan_has_34_steps() {
+fn the_dearest_plan() {
     let (query, steps) = pinned_calls::dearest_plan();
     assert_eq!(steps.len(), MOST_STEPS);
     assert_eq!(check::check(&query, &step::plan_bytes(&steps)), Ok(Charge(DEAREST_PLAN)));

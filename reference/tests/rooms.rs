@@ -116,7 +116,7 @@ fn every_end_of_a_star_turned() {
 #[test]
 fn the_query_in_force_is_not_asked_and_stays() {
     let nothing = ["refused 20", "cells OK", "output OK"];
-    let row_5 = ["solved 26 13 3 06010002020101020203000200", "cells OK"];
+    let row_5 = ["solved 23 11 3 0501000101020202000300", "cells OK"];
     // {0, 2} where both stand for 1 + 3, with 1 for 1 + 3, and 1 is sent for 1 + 1.
     let star_of_three = ["solved 10 13 8 06010001020301010102000300", "cells OK"];
     let rooms = ["room 3 9 3", "room 11 22 24", "refused 2", "refused 3", "refused 4"];

@@ -7,7 +7,7 @@ use reference::script::Call;
 
 const Q: [&str; 2] = ["solved 21 9 3 040100010102000300", "cells OK"];
 /// Q with the line from 1 to 0 closed.
-const ROW_5: [&str; 2] = ["solved 26 13 3 06010002020101020203000200", "cells OK"];
+const ROW_5: [&str; 2] = ["solved 23 11 3 0501000101020202000300", "cells OK"];
 const NOTHING: [&str; 3] = ["refused 20", "cells OK", "output OK"];
 
 /// The lines, with each plan's output cut to the plan.

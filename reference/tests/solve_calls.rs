@@ -3,24 +3,30 @@
 
 use reference::answers;
 use reference::encode::encode;
+use reference::limits::LONGEST_PLAN;
 use reference::pinned_solves;
 
 /// Each in an output of just the plan's length.
 const Q: [&str; 2] = ["solved 21 9 3 040100010102000300", "cells OK"];
-const ROW_5: [&str; 2] = ["solved 26 13 3 06010002020101020203000200", "cells OK"];
-/// The longest plan: every relation and every joined result is sent.
-const LONGEST: &str = "solved 109213 69 960 22\
-    010002000101020003000201\
-    0102020103010202\
-    0103020203020203\
-    0104020303030204\
-    0105020403040205\
-    0106020503050206\
-    0107020603060207\
-    0108020703070200";
+const ROW_5: [&str; 2] = ["solved 23 11 3 0501000101020202000300", "cells OK"];
 const NO_ROUTE: [&str; 3] = ["no-route 3", "cells OK", "output OK"];
 const FEW_CELLS: [&str; 3] = ["refused 21", "cells OK", "output OK"];
 const SHORT_OUTPUT: [&str; 3] = ["refused 23", "cells OK", "output OK"];
+
+/// The longest plan: every relation and every joined result takes seven sends, down from site
+/// to site and from 0 round to 7. Relations 0 and 1 start at site 7; join e is done at site e,
+/// and the relation after it starts there.
+fn longest() -> String {
+    let sends = |from: usize| -> String {
+        (1..8).map(|down| format!("02{:02x}", (from + 8 - down) % 8)).collect()
+    };
+    let mut plan = format!("0100{}", sends(7));
+    for join in 0..8 {
+        plan += &format!("01{:02x}{}", join + 1, sends((join + 7) % 8));
+        plan += &format!("03{join:02x}{}", sends(join));
+    }
+    format!("solved 109213 273 960 88{plan}")
+}
 
 #[test]
 fn the_longest_plan_is_that_of_the_example() {
@@ -31,22 +37,23 @@ fn the_longest_plan_is_that_of_the_example() {
 #[test]
 fn an_output_is_long_enough_or_too_short() {
     let q_and_a_byte = ["solved 21 9 3 04010001010200030058", "cells OK"];
-    let row_5_and_a_byte = ["solved 26 13 3 06010002020101020203000200ec", "cells OK"];
-    let longest_and_a_byte = format!("{LONGEST}04");
+    let row_5_and_a_byte = ["solved 23 11 3 0501000101020202000300a2", "cells OK"];
+    let longest = longest();
+    let longest_and_a_byte = format!("{longest}{:02x}", answers::lent_byte(LONGEST_PLAN));
     let expected = [
         vec!["load 2 3"],
         SHORT_OUTPUT.repeat(9),
         Q.to_vec(),
         q_and_a_byte.to_vec(),
         vec!["load 2 3"],
-        SHORT_OUTPUT.repeat(13),
+        SHORT_OUTPUT.repeat(11),
         ROW_5.to_vec(),
         row_5_and_a_byte.to_vec(),
         vec!["load 2 3"],
-        NO_ROUTE.repeat(15),
+        NO_ROUTE.repeat(13),
         vec!["load 9 45"],
         SHORT_OUTPUT.to_vec(),
-        vec![LONGEST, "cells OK"],
+        vec![&longest, "cells OK"],
         vec![&longest_and_a_byte, "cells OK"],
     ];
     assert_eq!(answers::lines(&pinned_solves::output_lengths()), expected.concat());
@@ -80,8 +87,12 @@ const STAR: &str = "0100\
 
 /// Behind a plan of 18 steps the output is as it was.
 fn nine(trials: u64, steps: &str) -> String {
-    let rest: String = (37..69).map(|place| format!("{:02x}", answers::lent_byte(place))).collect();
-    format!("solved 0 37 {trials} 12{steps}{rest}")
+    format!("solved 0 37 {trials} 12{steps}{}", rest(37))
+}
+
+/// What stood in a lent output of the longest plan's length, from this place on.
+fn rest(from: usize) -> String {
+    (from..LONGEST_PLAN).map(|place| format!("{:02x}", answers::lent_byte(place))).collect()
 }
 
 /// A cell less than is needed, as many, one more, and 4,096.
@@ -90,9 +101,6 @@ fn a_cell_for_each_subquery_and_site() {
     let alone = |sites: usize| match sites {
         1 => ("load 1 1".to_string(), 3, "solved 0 3 0 010100".to_string()),
         _ => ("load 1 1".to_string(), 5, format!("solved 0 5 0 02010002{:02x}", sites - 1)),
-    };
-    let rest = |from: usize| -> String {
-        (from..69).map(|place| format!("{:02x}", answers::lent_byte(place))).collect()
     };
     let alone = (1..=8).map(alone).map(|(load, length, plan)| (load, plan + &rest(length)));
     let of_nine = [("load 9 45", nine(960, CHAIN)), ("load 9 264", nine(8_192, STAR))];

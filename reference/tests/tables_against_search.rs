@@ -34,17 +34,22 @@ fn agree_on_many(seed: u64, count: u64, extent: Extent) {
 
 #[test]
 fn up_to_four_relations_at_three_sites() {
-    agree_on_many(11, 6_000, Extent::small());
+    agree_on_many(11, 3_000, Extent::small());
+}
+
+#[test]
+fn up_to_three_relations_at_eight_sites() {
+    agree_on_many(16, 1_500, Extent::wide());
 }
 
 #[test]
 fn four_relations_at_three_sites() {
-    agree_on_many(12, 600, Extent { relations: 4..=4, sites: 3..=3 });
+    agree_on_many(12, 150, Extent { relations: 4..=4, sites: 3..=3 });
 }
 
 #[test]
 fn five_relations() {
-    agree_on_many(13, 100, Extent { relations: 5..=5, sites: 1..=3 });
+    agree_on_many(13, 25, Extent { relations: 5..=5, sites: 1..=3 });
 }
 
 /// Up to as many steps as a plan has in which each result is sent to every other site.
@@ -74,7 +79,8 @@ fn the_search_refuses_what_it_cannot_keep() {
         |joins: Vec<Join>, sites| exhaustive::cheapest(&pinned::uniform(joins, sites)).is_err();
     assert!(refused(pinned::star(9), 8));
     assert!(refused(pinned::chain(9), 2));
-    assert!(refused(pinned::chain(6), 5));
+    assert!(refused(pinned::chain(6), 4));
+    assert!(refused(pinned::chain(5), 8));
     assert!(!refused(pinned::star(4), 8));
 }
 
@@ -86,6 +92,6 @@ fn the_stacks_of_the_smallest_queries() {
     assert_eq!(exhaustive::stacks(&pinned::uniform(pinned::chain(1), 2)), 1 + 3);
     assert_eq!(exhaustive::stacks(&pinned::uniform(pinned::chain(2), 1)), 1 + 2 + 2 + 1);
     assert_eq!(exhaustive::stacks(&pinned::uniform(pinned::chain(2), 2)), 1 + 6 + 2 * 9 + 4);
-    let five = exhaustive::stacks(&pinned::uniform(pinned::chain(5), 8));
+    let five = exhaustive::stacks(&pinned::uniform(pinned::chain(5), 7));
     assert!(five <= exhaustive::MOST_STACKS, "{five}");
 }

@@ -10,6 +10,7 @@ use crate::listing;
 use crate::method::Method;
 use crate::pinned;
 use crate::pinned_indexes;
+use crate::pinned_routes;
 
 pub const DEFAULT_SEED: u64 = 1;
 /// Random files tried for each method.
@@ -36,8 +37,9 @@ pub fn told_apart(
     answer: impl FnOnce(&[u8]) -> io::Result<String>,
 ) -> io::Result<Verdict> {
     let rows = pinned::rows().into_iter().map(|(query, _)| query);
-    let indexes = pinned_indexes::worked().into_iter().map(|worked| worked.query);
-    let pinned = rows.chain([pinned::lower_site_at_a_tie()]).chain(indexes);
+    let worked = pinned_indexes::worked().into_iter().chain(pinned_routes::worked());
+    let worked = worked.map(|worked| worked.query);
+    let pinned = rows.chain([pinned::lower_site_at_a_tie()]).chain(worked);
     let pinned = pinned.map(|query| encode::encode(&query));
     let random = (0..files).map(|case| cases::random_file(seed, case));
     let apart = pinned.chain(random).filter(|file| differ(method, file));
@@ -55,7 +57,7 @@ pub fn told_apart(
 /// The model and the method give different answers.
 fn differ(method: Method, file: &[u8]) -> bool {
     let (model, wrong) = (listing::listing(file, Method::Rules), listing::listing(file, method));
-    if Method::OTHERWISE_WRITTEN.contains(&method) {
+    if method.costs_the_same() {
         model != wrong
     } else {
         model.lines().next() != wrong.lines().next()

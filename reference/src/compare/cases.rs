@@ -6,7 +6,9 @@ use crate::generate::files;
 use crate::generate::queries::{self, Extent};
 use crate::pinned;
 use crate::pinned_indexes;
+use crate::pinned_routes;
 use crate::pinned_rows;
+use crate::pinned_solves;
 use crate::query::Query;
 use crate::random::Random;
 use crate::stated::{Form, Stated};
@@ -20,7 +22,9 @@ pub fn fixed() -> Vec<Vec<u8>> {
     pinned.extend([pinned::uniform(pinned::star(9), 8), pinned::uniform(pinned::chain(9), 8)]);
     pinned.extend(pinned::PARCELS.map(|(size, _)| pinned::sent(size)));
     pinned.extend(pinned::PARCELS.map(|(size, _)| pinned::joined_and_sent(size)));
-    pinned.extend(pinned_indexes::worked().into_iter().map(|worked| worked.query));
+    let worked = pinned_indexes::worked().into_iter().chain(pinned_routes::worked());
+    pinned.extend(worked.map(|worked| worked.query));
+    pinned.push(pinned_solves::longest_plan());
 
     let mut cases: Vec<Vec<u8>> = pinned.iter().map(encode::encode).collect();
     cases.extend(sweep(&pinned::q().into()));
