@@ -7,6 +7,7 @@ use crate::query::Query;
 use crate::refusal::Refusal;
 use crate::room::{self, Figures};
 use crate::script::Call;
+use crate::units::Charge;
 
 /// At most so many cells and output bytes are lent, whatever a record says.
 pub const MOST_CELLS_LENT: u32 = 8_192;
@@ -28,10 +29,7 @@ impl Call {
                 Err(refusal) => refused(refusal),
             }],
             Call::Solve { cells, output } => solve_lines(planner, *cells, *output, Planner::solve),
-            Call::Check { plan } => vec![match planner.check(plan) {
-                Ok(cost) => format!("check {}", cost.0),
-                Err(refusal) => refused(refusal),
-            }],
+            Call::Check { plan } => vec![check_line(planner.check(plan))],
             Call::Room(draft) => vec![room_line(room::room(draft))],
         }
     }
@@ -41,6 +39,13 @@ impl Call {
 pub fn load_line(answer: Result<Loaded, Refusal>) -> String {
     match answer {
         Ok(loaded) => format!("load {} {}", loaded.relations, loaded.subqueries),
+        Err(refusal) => refused(refusal),
+    }
+}
+
+pub fn check_line(answer: Result<Charge, Refusal>) -> String {
+    match answer {
+        Ok(cost) => format!("check {}", cost.0),
         Err(refusal) => refused(refusal),
     }
 }

@@ -56,8 +56,9 @@ pub fn ties() -> Vec<Worked> {
     ]
 }
 
-/// Row 5, where the line from 1 to 0 is closed; a site that may not join and is passed; eight
-/// sites one way round; and free lines on which nothing is sent that is wanted where it stands.
+/// Row 5, where the line from 1 to 0 is closed; a site that may not join and is passed; lines
+/// down from site to site; eight sites one way round; and free lines on which nothing is sent
+/// that is wanted where it stands.
 pub fn ways_round() -> Vec<Worked> {
     let (row_5, _) = pinned::rows().swap_remove(4);
     let mut passed = pinned::q();
@@ -66,6 +67,8 @@ pub fn ways_round() -> Vec<Worked> {
     passed.sites[1].may_join = false;
     passed.line_mut(0, 2).open = false;
     passed.delivery = 2;
+    let mut down = one_relation(3, 10, &[(2, 1, 1, 1), (1, 0, 1, 1)], 0);
+    down.relations[0].home = 2;
     let ring: Vec<Open> = (0..8).map(|site| (site, (site + 1) % 8, 1, 1)).collect();
     let mut round = one_relation(8, 10, &ring, 0);
     round.relations[0].home = 1;
@@ -76,6 +79,7 @@ pub fn ways_round() -> Vec<Worked> {
     vec![
         case("row 5", row_5, &[5, 1, 0, 1, 1, 2, 2, 2, 0, 3, 0], 2 + 2 + 19),
         case("a site passed", passed, &[5, 1, 0, 2, 1, 2, 2, 1, 1, 3, 0], 3 + 3 + 19),
+        case("down", down, &sent(&[1, 0]), 2 * (1 + 2)),
         case("seven sends", round, &sent(&[2, 3, 4, 5, 6, 7, 0]), 7 * (1 + 2)),
         case("no tours", free, &[3, 1, 0, 1, 1, 3, 0], 19),
     ]

@@ -1,20 +1,18 @@
 //! Joins of relations with indexes: the figures worked out by hand, in solve, in check and by
 //! the search; and random queries in whose cheapest plan both operands of a join qualify.
 
-use std::io;
+mod common;
 
+use common::{hold, WithCheck};
 use reference::compare::calls;
-use reference::compare::program::{Answering, Feed};
 use reference::generate::queries::{self, Extent};
 use reference::hex::hex;
 use reference::method::Method;
 use reference::pinned_indexes;
-use reference::planner::Planner;
 use reference::prices::{self, Operand};
 use reference::query::Query;
 use reference::random::Random;
 use reference::rules::{Held, Stack};
-use reference::script::Call;
 use reference::solve::{self, Plan};
 use reference::step::{self, Step};
 use reference::units::{Bytes, Charge};
@@ -41,23 +39,7 @@ fn what_a_join_reads() {
 
 #[test]
 fn the_figures_worked_out_by_hand() {
-    for worked in pinned_indexes::worked() {
-        let (query, expected) = (&worked.query, Charge(worked.cost));
-        let plan = solve::solve(query, Method::Rules).expect(worked.what);
-        assert_eq!(
-            (plan.cost, step::plan_bytes(&plan.steps)),
-            (expected, worked.plan),
-            "{}",
-            worked.what
-        );
-        assert_eq!(
-            check::check(query, &step::plan_bytes(&plan.steps)),
-            Ok(expected),
-            "{}",
-            worked.what
-        );
-        assert_eq!(exhaustive::cheapest(query), Ok(Some(expected)), "{}", worked.what);
-    }
+    pinned_indexes::worked().iter().for_each(hold);
 }
 
 /// Which operand lies on top does not matter; after a send neither qualifies.
@@ -149,27 +131,7 @@ fn tables_and_search_agree_where_both_qualify() {
     assert!(held > 3_000, "{held}");
 }
 
-/// The model with a check that spares both reads of two that qualify.
-struct CheckSparesBoth;
-
-impl Answering for CheckSparesBoth {
-    fn run(&self, mut script: &[u8], _: Feed) -> io::Result<String> {
-        let mut planner = Planner::empty(Method::Rules);
-        let mut text = String::new();
-        while let Some(call) = Call::next(&mut script) {
-            let lines = match &call {
-                Call::Check { plan } if planner.check(plan).is_ok() => {
-                    let query = planner.query().expect("a plan is allowed");
-                    vec![format!("check {}", cost_both_spared(query, plan).0)]
-                }
-                _ => call.run(&mut planner),
-            };
-            text.extend(lines.into_iter().map(|line| line + "\n"));
-        }
-        Ok(text)
-    }
-}
-
+/// What an allowed plan costs where both reads of two that qualify are spared.
 fn cost_both_spared(query: &Query, plan: &[u8]) -> Charge {
     let step = |bytes: &[u8]| Step::from_bytes(query, bytes[0], bytes[1]);
     let steps: Vec<Step> = plan[1..].chunks_exact(2).filter_map(step).collect();
@@ -182,7 +144,9 @@ fn cost_both_spared(query: &Query, plan: &[u8]) -> Charge {
 
 #[test]
 fn a_check_that_spares_both_is_found() {
-    let compared = calls::compare(&CheckSparesBoth, calls::DEFAULT_SEED, calls::DEFAULT_LISTS);
+    let spares_both =
+        WithCheck(|query, plan| check::check(query, plan).map(|_| cost_both_spared(query, plan)));
+    let compared = calls::compare(&spares_both, calls::DEFAULT_SEED, calls::DEFAULT_LISTS);
     let Err(mismatch) = compared.unwrap() else { panic!("not found") };
     assert!(mismatch.calls.len() <= 2, "{mismatch}");
 }

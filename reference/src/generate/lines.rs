@@ -7,10 +7,11 @@ use crate::random::Random;
 use crate::units::{Charge, Rate};
 
 pub fn lines(random: &mut Random, sites: usize, mood: Mood) -> Vec<Line> {
-    match random.below(10) {
-        0 | 1 => along(random, sites),
-        2 => ring(random, sites, mood),
-        3 => fixed_or_rate(random, sites),
+    match random.below(100) {
+        0..=14 => along(random, sites),
+        15..=24 => ring(random, sites, mood),
+        25..=39 => rounds(random, sites),
+        40..=49 => fixed_or_rate(random, sites),
         _ => any(random, sites, mood),
     }
 }
@@ -55,6 +56,18 @@ fn ring(random: &mut Random, sites: usize, mood: Mood) -> Vec<Line> {
         line.open = next(ends);
     }
     lines
+}
+
+/// The sites stand in four groups, and most lines from each group to the next are open, at one
+/// price: routes that tie have as many sends, and differ in one of their stops or in several.
+fn rounds(random: &mut Random, sites: usize) -> Vec<Line> {
+    let place = shuffled(random, sites);
+    let price = random.between(0, 2);
+    let line = |(sender, receiver): (usize, usize)| {
+        let next = place[receiver] % 4 == (place[sender] + 1) % 4;
+        Line { open: next && random.percent(75), fixed: Charge(price), rate: Rate(0) }
+    };
+    Query::line_ends(sites).map(line).collect()
 }
 
 /// Each line charges a fixed amount or a rate, so that small results go another way than large
