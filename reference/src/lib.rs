@@ -8,6 +8,7 @@
 
 pub mod answers;
 pub mod c_call;
+pub mod carriage;
 pub mod check;
 pub mod compare;
 pub mod decode;

@@ -39,7 +39,7 @@ fn write_delivered(tables: &Tables, subquery: Set, to: usize, steps: &mut Vec<St
     } else {
         write_joined(tables, subquery, from, steps);
     }
-    if let Some(route) = tables.route(subquery, from, to) {
+    if let Some(route) = tables.carriage.route(subquery, from, to) {
         let unwritten = match tables.method {
             Method::LastStopOnly => route.sends.saturating_sub(1),
             _ => 0,

@@ -1,14 +1,13 @@
 //! The two tables of the rules: Delivered and Joined, each defined by the other
 //! over fewer relations.
 
+use crate::carriage::Carriage;
 use crate::method::Method;
 use crate::prices::Operand;
 use crate::query::Query;
-use crate::routes::{self, Prices, Route};
 use crate::sets::{self, Set};
 use crate::tree;
 use crate::units::Charge;
-use crate::wrong_routes;
 
 /// A cost or none.
 pub type Cost = Option<Charge>;
@@ -23,6 +22,7 @@ pub struct Entry {
 pub struct Tables<'query> {
     pub query: &'query Query,
     pub method: Method,
+    pub carriage: Carriage<'query>,
     /// By subquery number, then site; Joined is empty for a single relation.
     delivered: Vec<Vec<Entry>>,
     joined: Vec<Vec<Entry>>,
@@ -32,7 +32,8 @@ impl<'query> Tables<'query> {
     pub fn fill(query: &'query Query, method: Method) -> Self {
         let numbers = 1 << query.relations.len();
         let (delivered, joined) = (vec![Vec::new(); numbers], vec![Vec::new(); numbers]);
-        let mut tables = Tables { query, method, delivered, joined };
+        let carriage = Carriage::new(query, method);
+        let mut tables = Tables { query, method, carriage, delivered, joined };
         let mut smaller_first = query.subqueries().to_vec();
         smaller_first.sort_by_key(|&subquery| sets::count(subquery));
         for subquery in smaller_first {
@@ -54,16 +55,13 @@ impl<'query> Tables<'query> {
         let sites = 0..self.query.sites.len();
         if sets::count(subquery) == 1 {
             let home = self.query.relations[sets::lowest(subquery)].home;
-            let from_home = |&route: &Option<Route>| Entry { cost: carriage(route), by: home };
-            let routes = self.routes(subquery, [home].into_iter());
-            self.delivered[place] = routes[0].iter().map(from_home).collect();
+            let from_home = |to| Entry { cost: self.carriage.cost(subquery, home, to), by: home };
+            self.delivered[place] = sites.map(from_home).collect();
         } else {
             let splits = self.splits(subquery);
             let joined = |at| self.joined_at(subquery, &splits, at);
             self.joined[place] = sites.clone().map(joined).collect();
-            let routes = self.routes(subquery, sites.clone());
-            let delivered = |to| self.delivered_at(subquery, &routes, to);
-            self.delivered[place] = sites.map(delivered).collect();
+            self.delivered[place] = sites.map(|to| self.delivered_at(subquery, to)).collect();
         }
     }
 
@@ -102,15 +100,14 @@ impl<'query> Tables<'query> {
     }
 
     /// Delivered(S, t) of two relations or more.
-    fn delivered_at(&self, subquery: Set, routes: &[Vec<Option<Route>>], to: usize) -> Entry {
+    fn delivered_at(&self, subquery: Set, to: usize) -> Entry {
         let mut best = Entry { cost: None, by: 0 };
         let asked_first = (self.method == Method::AskedSiteFirst).then_some(to);
         for at in asked_first.into_iter().chain(0..self.query.sites.len()) {
-            let cost = self.sum(self.joined(subquery, at).cost, carriage(routes[at][to]));
-            let sends = |at: usize| routes[at][to].map(|route| route.sends);
-            let fewer_sends = cost == best.cost && sends(at) < sends(best.by);
-            if self.wins(cost, best.cost, Method::HighestSite)
-                || self.method == Method::FewestSendsSite && fewer_sends
+            let joined = self.joined(subquery, at).cost;
+            let cost = self.sum(joined, self.carriage.cost(subquery, at, to));
+            let fewer_sends = || self.fewer_sends(subquery, [at, best.by], to);
+            if self.wins(cost, best.cost, Method::HighestSite) || cost == best.cost && fewer_sends()
             {
                 best = Entry { cost, by: at };
             }
@@ -118,30 +115,10 @@ impl<'query> Tables<'query> {
         best
     }
 
-    /// How the subquery's result comes from each of these sites to every site.
-    fn routes(&self, subquery: Set, from: impl Iterator<Item = usize>) -> Vec<Vec<Option<Route>>> {
-        let prices = self.prices(subquery);
-        if self.method == Method::RoutedByAPart {
-            let of_a_part = self.prices(sets::single(sets::lowest(subquery)));
-            return from.map(|from| wrong_routes::repriced(from, &of_a_part, &prices)).collect();
-        }
-        from.map(|from| wrong_routes::best_from(self.method, from, &prices)).collect()
-    }
-
-    /// How it comes from one site to another.
-    pub fn route(&self, subquery: Set, from: usize, to: usize) -> Option<Route> {
-        self.routes(subquery, [from].into_iter()).swap_remove(0).swap_remove(to)
-    }
-
-    fn prices(&self, subquery: Set) -> Prices {
-        let size = self.query.size(subquery);
-        routes::prices(self.query.sites.len(), |sender, receiver| {
-            let line = match self.method {
-                Method::OtherDirection => self.query.line(receiver, sender),
-                _ => self.query.line(sender, receiver),
-            };
-            line.open.then(|| self.method.send(line, size))
-        })
+    /// The mistake of a planner that chooses a site by its sends.
+    fn fewer_sends(&self, subquery: Set, sites: [usize; 2], to: usize) -> bool {
+        let sends = |at| self.carriage.route(subquery, at, to).map(|route| route.sends);
+        self.method == Method::FewestSendsSite && sends(sites[0]) < sends(sites[1])
     }
 
     /// Two parts that were delivered to the site, as the operands of a join there: one that has
@@ -188,11 +165,6 @@ impl<'query> Tables<'query> {
             }
         }
     }
-}
-
-/// What a route costs; none where there is none.
-fn carriage(route: Option<Route>) -> Cost {
-    route.map(|route| route.cost)
 }
 
 /// The mistake of a planner that has the largest number for none.

@@ -4,7 +4,6 @@ use std::cmp::Reverse;
 
 use crate::method::Method;
 use crate::routes::{self, Prices, Route};
-use crate::units::Charge;
 
 /// The routes from a site to each that the method takes for the best.
 pub fn best_from(method: Method, from: usize, prices: &Prices) -> Vec<Option<Route>> {
@@ -36,19 +35,16 @@ pub fn best_from(method: Method, from: usize, prices: &Prices) -> Vec<Option<Rou
     }
 }
 
-/// The routes that are best at some prices, as dear as they are at others.
-pub fn repriced(from: usize, chosen_by: &Prices, prices: &Prices) -> Vec<Option<Route>> {
-    let repriced = |route: Route| {
-        let mut at = from;
-        let mut repriced = Route::STAY;
-        for to in route.stops() {
-            repriced = repriced.then(to, prices[at][to].unwrap_or(Charge(0)));
-            at = to;
-        }
-        repriced
-    };
-    let chosen = routes::best_from(from, chosen_by, &Route::lt);
-    chosen.into_iter().map(|route| route.map(repriced)).collect()
+/// The same route at other prices.
+pub fn repriced(route: Route, from: usize, prices: &Prices) -> Route {
+    let mut at = from;
+    let mut repriced = Route::STAY;
+    for to in route.stops() {
+        let price = prices[at][to].expect("a route leads over open lines");
+        repriced = repriced.then(to, price);
+        at = to;
+    }
+    repriced
 }
 
 /// Each site by its own line.
