@@ -16,9 +16,8 @@ use crate::sets::{self, Set};
 use crate::step::Step;
 use crate::units::Charge;
 
-/// The search keeps every stack that it reaches. So many take less than a gigabyte and
-/// half a minute: all queries of five relations, six at four sites, seven at two, nine
-/// at one.
+/// The search keeps every stack that it reaches. So many take less than a gigabyte and a
+/// minute: all queries of four relations, five at seven sites, six at three, nine at one.
 pub const MOST_STACKS: u64 = 6_000_000;
 
 /// A query that the search does not begin with, and how many stacks it could reach.

@@ -25,6 +25,7 @@ pub mod pinned;
 pub mod pinned_calls;
 pub mod pinned_indexes;
 pub mod pinned_rooms;
+pub mod pinned_route_calls;
 pub mod pinned_routes;
 pub mod pinned_row_calls;
 pub mod pinned_rows;

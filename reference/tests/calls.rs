@@ -5,6 +5,7 @@ use reference::pinned;
 use reference::pinned_calls::{self, SOLVE};
 use reference::pinned_indexes;
 use reference::pinned_rooms::{self, room};
+use reference::pinned_route_calls;
 use reference::pinned_row_calls::{self, load_from_rows};
 use reference::pinned_rows;
 use reference::pinned_solves;
@@ -221,6 +222,7 @@ fn calls_of(mut script: &[u8]) -> Vec<Call> {
 #[test]
 fn a_script_is_read_as_it_was_written() {
     let lists = pinned_calls::lists().into_iter().chain(pinned_solves::lists());
+    let lists = lists.chain(pinned_route_calls::lists());
     for calls in lists.chain(pinned_row_calls::lists()).chain(pinned_rooms::lists()) {
         let script: Vec<u8> = calls.iter().flat_map(|call| call.record()).collect();
         assert_eq!(calls_of(&script), calls);

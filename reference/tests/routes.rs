@@ -26,7 +26,7 @@ use reference::sets;
 use reference::solve::{self, Plan};
 use reference::step::{self, Step};
 use reference::units::Charge;
-use reference::{pinned, pinned_calls, pinned_routes, pinned_solves};
+use reference::{pinned, pinned_route_calls, pinned_routes, pinned_solves};
 
 #[test]
 fn the_figures_worked_out_by_hand() {
@@ -57,7 +57,7 @@ fn only_homes_is_told_by_a_site_that_joins_for_nothing() {
 
 #[test]
 fn a_relation_that_was_sent_has_lost_its_index() {
-    let lines = answers::lines(&pinned_calls::home_again());
+    let lines = answers::lines(&pinned_route_calls::home_again());
     assert!(lines[1].starts_with("solved 9 7 3 03010001010300"), "{}", lines[1]);
     assert_eq!(lines[3..], ["check 9", "check 109", "check 109", "check 109"]);
 }
@@ -65,7 +65,7 @@ fn a_relation_that_was_sent_has_lost_its_index() {
 /// A send of 8 bytes takes 8. After an even number of sends the relation is at site 0.
 #[test]
 fn chains_of_sends() {
-    let lines = answers::lines(&pinned_calls::chains_of_sends());
+    let lines = answers::lines(&pinned_route_calls::chains_of_sends());
     let (chains, standing) = lines[1..].split_at(MOST_STEPS);
     let most_sends = MOST_STEPS - 1;
     for (sends, line) in (1..=most_sends).zip(chains) {

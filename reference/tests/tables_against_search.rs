@@ -39,7 +39,7 @@ fn up_to_four_relations_at_three_sites() {
 
 #[test]
 fn up_to_three_relations_at_eight_sites() {
-    agree_on_many(16, 1_500, Extent::wide());
+    agree_on_many(16, 600, Extent::wide());
 }
 
 #[test]

@@ -13,6 +13,7 @@ use crate::generate::calls;
 use crate::method::Method;
 use crate::pinned_calls::{self, SOLVE};
 use crate::pinned_rooms;
+use crate::pinned_route_calls;
 use crate::pinned_row_calls;
 use crate::pinned_solves;
 use crate::planner::Planner;
@@ -114,6 +115,7 @@ fn compare_script(
 fn fixed() -> impl Iterator<Item = (Vec<Call>, Vec<u8>)> {
     let lists = pinned_rooms::lists().into_iter().chain(pinned_calls::lists());
     let lists = lists.chain(pinned_solves::lists()).chain(pinned_row_calls::lists());
+    let lists = lists.chain(pinned_route_calls::lists());
     let alone = lists.map(|calls| (calls, Vec::new()));
     alone.chain(UNKNOWN.map(|kind| (vec![SOLVE], unknown_then_solve(kind))))
 }

@@ -12,5 +12,6 @@ pub mod queries;
 pub mod rooms;
 pub mod rows;
 pub mod standing;
+pub mod tours;
 pub mod trees;
 pub mod unequal;

@@ -1,5 +1,6 @@
 //! Plans to check: allowed ones, cheapest or not, and ones that are nearly allowed.
 
+use crate::generate::tours::{self, others};
 use crate::limits::{LONGEST_PLAN, MOST_STEPS};
 use crate::query::Query;
 use crate::random::Random;
@@ -32,7 +33,7 @@ pub fn to_check(random: &mut Random, query: &Query, plan: Option<&[Step]>) -> Ve
         (0 | 1, Some(steps)) => step::plan_bytes(&steps),
         (2 | 3, Some(steps)) => step::plan_bytes(&steps_changed(random, query, steps)),
         (4 | 5, Some(steps)) => bytes_changed(random, step::plan_bytes(&steps)),
-        (6 | 7, Some(steps)) => step::plan_bytes(&with_tours(random, query, steps)),
+        (6 | 7, Some(steps)) => step::plan_bytes(&tours::with_tours(random, query, steps)),
         (8 | 9, _) => step::plan_bytes(&wandering(random, query)),
         (10, _) => step::plan_bytes(&random_steps(random, query)),
         (_, _) => random_bytes(random),
@@ -83,10 +84,6 @@ fn send_on(
     (at == to).then_some(())
 }
 
-fn others(query: &Query, site: usize) -> impl Iterator<Item = usize> {
-    (0..query.sites.len()).filter(move |&other| other != site)
-}
-
 fn join_somewhere(
     random: &mut Random,
     query: &Query,
@@ -107,40 +104,6 @@ fn join_somewhere(
     }
     steps.push(Step::Join { join });
     Some(at)
-}
-
-/// The plan with sends away and back again behind one of its steps, so that a relation may be
-/// home again before its join: a few, or up to the limit of steps and beyond it. Now and then a
-/// send among them is to where the result stands.
-fn with_tours(random: &mut Random, query: &Query, mut steps: Vec<Step>) -> Vec<Step> {
-    let place = random.below(steps.len());
-    let Some(at) = top_after(query, &steps[..=place]) else {
-        return steps;
-    };
-    let both_open = |&away: &usize| query.line(at, away).open && query.line(away, at).open;
-    let away: Vec<usize> = others(query, at).filter(both_open).collect();
-    if away.is_empty() {
-        return steps;
-    }
-    let room = MOST_STEPS.saturating_sub(steps.len()) / 2;
-    let tours = random.pick(&[1, 1, 2, room / 2, room, room + 1]);
-    let tour = |_| [random.pick(&away), at].map(|to| Step::Send { to });
-    let mut sends: Vec<Step> = (0..tours).flat_map(tour).collect();
-    if random.percent(10) && !sends.is_empty() {
-        let place = random.below(sends.len());
-        sends.insert(place, sends[place]);
-    }
-    steps.splice(place + 1..place + 1, sends);
-    steps
-}
-
-/// Where the top stands after these steps, if they are allowed.
-fn top_after(query: &Query, steps: &[Step]) -> Option<usize> {
-    let mut stack = Stack::default();
-    for &step in steps {
-        stack.step(query, step).ok()?;
-    }
-    stack.held.last().map(|top| top.site)
 }
 
 /// Mostly steps that the rules allow, broken off anywhere.
