@@ -1,7 +1,4 @@
-//! The carriage of a query's results from site to site, by the routes that a method takes. What
-//! is as large goes the same way.
-
-use std::collections::BTreeMap;
+//! Carriage: what it takes to have a result at another site, by the routes that a method takes.
 
 use crate::method::Method;
 use crate::query::Query;
@@ -10,49 +7,46 @@ use crate::sets::{self, Set};
 use crate::units::{Bytes, Charge};
 use crate::wrong_routes;
 
-pub struct Carriage<'query> {
-    query: &'query Query,
-    method: Method,
-    /// By size, then sender, then receiver.
-    routes: BTreeMap<Bytes, Vec<Vec<Option<Route>>>>,
+/// The routes of results of one size, by sender, then receiver.
+pub struct Carriage {
+    size: Bytes,
+    routes: Vec<Vec<Option<Route>>>,
 }
 
-impl<'query> Carriage<'query> {
-    pub fn new(query: &'query Query, method: Method) -> Self {
-        let mut carriage = Carriage { query, method, routes: BTreeMap::new() };
-        for &size in &query.sizes {
-            if !carriage.routes.contains_key(&size) {
-                let prices = carriage.prices(size);
-                let from = |site| wrong_routes::best_from(method, site, &prices);
-                carriage.routes.insert(size, (0..query.sites.len()).map(from).collect());
+impl Carriage {
+    pub fn of(query: &Query, method: Method, subquery: Set) -> Carriage {
+        let size = query.size(subquery);
+        let own = prices(query, method, size);
+        let from = |site| match method {
+            Method::RoutedByAPart => {
+                let part = query.size(sets::single(sets::lowest(subquery)));
+                wrong_routes::repriced(site, &prices(query, method, part), &own)
             }
-        }
-        carriage
+            _ => wrong_routes::best_from(method, site, &own),
+        };
+        Carriage { size, routes: (0..query.sites.len()).map(from).collect() }
     }
 
-    /// The route of the subquery's result, none where there is none.
-    pub fn route(&self, subquery: Set, from: usize, to: usize) -> Option<Route> {
-        let size = self.query.size(subquery);
-        if self.method == Method::RoutedByAPart {
-            let of_a_part = self.query.size(sets::single(sets::lowest(subquery)));
-            let route = self.routes[&of_a_part][from][to]?;
-            return Some(wrong_routes::repriced(route, from, &self.prices(size)));
-        }
-        self.routes[&size][from][to]
+    /// Whether results of this size take these routes too.
+    pub fn suits(&self, method: Method, size: Bytes) -> bool {
+        self.size == size && method != Method::RoutedByAPart
     }
 
-    /// What that costs.
-    pub fn cost(&self, subquery: Set, from: usize, to: usize) -> Option<Charge> {
-        self.route(subquery, from, to).map(|route| route.cost)
+    pub fn route(&self, from: usize, to: usize) -> Option<Route> {
+        self.routes[from][to]
     }
 
-    fn prices(&self, size: Bytes) -> Prices {
-        routes::prices(self.query.sites.len(), |sender, receiver| {
-            let line = match self.method {
-                Method::OtherDirection => self.query.line(receiver, sender),
-                _ => self.query.line(sender, receiver),
-            };
-            line.open.then(|| self.method.send(line, size))
-        })
+    pub fn cost(&self, from: usize, to: usize) -> Option<Charge> {
+        self.route(from, to).map(|route| route.cost)
     }
+}
+
+fn prices(query: &Query, method: Method, size: Bytes) -> Prices {
+    routes::prices(query.sites.len(), |sender, receiver| {
+        let line = match method {
+            Method::OtherDirection => query.line(receiver, sender),
+            _ => query.line(sender, receiver),
+        };
+        line.open.then(|| method.send(line, size))
+    })
 }

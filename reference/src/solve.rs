@@ -1,5 +1,6 @@
 //! Solve: the cheapest plan, written from the tables, and the trials.
 
+use crate::carriage::Carriage;
 use crate::method::Method;
 use crate::query::Query;
 use crate::sets::{self, Set};
@@ -39,7 +40,8 @@ fn write_delivered(tables: &Tables, subquery: Set, to: usize, steps: &mut Vec<St
     } else {
         write_joined(tables, subquery, from, steps);
     }
-    if let Some(route) = tables.carriage.route(subquery, from, to) {
+    let carriage = Carriage::of(tables.query, tables.method, subquery);
+    if let Some(route) = carriage.route(from, to) {
         let unwritten = match tables.method {
             Method::LastStopOnly => route.sends.saturating_sub(1),
             _ => 0,

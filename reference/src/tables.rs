@@ -22,7 +22,6 @@ pub struct Entry {
 pub struct Tables<'query> {
     pub query: &'query Query,
     pub method: Method,
-    pub carriage: Carriage<'query>,
     /// By subquery number, then site; Joined is empty for a single relation.
     delivered: Vec<Vec<Entry>>,
     joined: Vec<Vec<Entry>>,
@@ -32,12 +31,16 @@ impl<'query> Tables<'query> {
     pub fn fill(query: &'query Query, method: Method) -> Self {
         let numbers = 1 << query.relations.len();
         let (delivered, joined) = (vec![Vec::new(); numbers], vec![Vec::new(); numbers]);
-        let carriage = Carriage::new(query, method);
-        let mut tables = Tables { query, method, carriage, delivered, joined };
+        let mut tables = Tables { query, method, delivered, joined };
         let mut smaller_first = query.subqueries().to_vec();
-        smaller_first.sort_by_key(|&subquery| sets::count(subquery));
+        // Equal sizes next to each other, since they take the same routes.
+        smaller_first.sort_by_key(|&subquery| (sets::count(subquery), query.size(subquery)));
+        let mut carriage = Carriage::of(query, method, smaller_first[0]);
         for subquery in smaller_first {
-            tables.fill_subquery(subquery);
+            if !carriage.suits(method, query.size(subquery)) {
+                carriage = Carriage::of(query, method, subquery);
+            }
+            tables.fill_subquery(subquery, &carriage);
         }
         tables
     }
@@ -50,18 +53,19 @@ impl<'query> Tables<'query> {
         self.joined[usize::from(subquery)][at]
     }
 
-    fn fill_subquery(&mut self, subquery: Set) {
+    fn fill_subquery(&mut self, subquery: Set, carriage: &Carriage) {
         let place = usize::from(subquery);
         let sites = 0..self.query.sites.len();
         if sets::count(subquery) == 1 {
             let home = self.query.relations[sets::lowest(subquery)].home;
-            let from_home = |to| Entry { cost: self.carriage.cost(subquery, home, to), by: home };
+            let from_home = |to| Entry { cost: carriage.cost(home, to), by: home };
             self.delivered[place] = sites.map(from_home).collect();
         } else {
             let splits = self.splits(subquery);
             let joined = |at| self.joined_at(subquery, &splits, at);
             self.joined[place] = sites.clone().map(joined).collect();
-            self.delivered[place] = sites.map(|to| self.delivered_at(subquery, to)).collect();
+            let delivered = |to| self.delivered_at(subquery, carriage, to);
+            self.delivered[place] = sites.map(delivered).collect();
         }
     }
 
@@ -100,25 +104,21 @@ impl<'query> Tables<'query> {
     }
 
     /// Delivered(S, t) of two relations or more.
-    fn delivered_at(&self, subquery: Set, to: usize) -> Entry {
+    fn delivered_at(&self, subquery: Set, carriage: &Carriage, to: usize) -> Entry {
         let mut best = Entry { cost: None, by: 0 };
         let asked_first = (self.method == Method::AskedSiteFirst).then_some(to);
         for at in asked_first.into_iter().chain(0..self.query.sites.len()) {
             let joined = self.joined(subquery, at).cost;
-            let cost = self.sum(joined, self.carriage.cost(subquery, at, to));
-            let fewer_sends = || self.fewer_sends(subquery, [at, best.by], to);
-            if self.wins(cost, best.cost, Method::HighestSite) || cost == best.cost && fewer_sends()
+            let cost = self.sum(joined, carriage.cost(at, to));
+            let sends = |at| carriage.route(at, to).map(|route| route.sends);
+            let fewer_sends = cost == best.cost && sends(at) < sends(best.by);
+            if self.wins(cost, best.cost, Method::HighestSite)
+                || self.method == Method::FewestSendsSite && fewer_sends
             {
                 best = Entry { cost, by: at };
             }
         }
         best
-    }
-
-    /// The mistake of a planner that chooses a site by its sends.
-    fn fewer_sends(&self, subquery: Set, sites: [usize; 2], to: usize) -> bool {
-        let sends = |at| self.carriage.route(subquery, at, to).map(|route| route.sends);
-        self.method == Method::FewestSendsSite && sends(sites[0]) < sends(sites[1])
     }
 
     /// Two parts that were delivered to the site, as the operands of a join there: one that has

@@ -35,16 +35,20 @@ pub fn best_from(method: Method, from: usize, prices: &Prices) -> Vec<Option<Rou
     }
 }
 
-/// The same route at other prices.
-pub fn repriced(route: Route, from: usize, prices: &Prices) -> Route {
-    let mut at = from;
-    let mut repriced = Route::STAY;
-    for to in route.stops() {
-        let price = prices[at][to].expect("a route leads over open lines");
-        repriced = repriced.then(to, price);
-        at = to;
-    }
-    repriced
+/// The routes that are best at the prices of a part, at what they cost.
+pub fn repriced(from: usize, of_a_part: &Prices, prices: &Prices) -> Vec<Option<Route>> {
+    let repriced = |route: Route| {
+        let mut at = from;
+        let mut repriced = Route::STAY;
+        for to in route.stops() {
+            let price = prices[at][to].expect("a route leads over open lines");
+            repriced = repriced.then(to, price);
+            at = to;
+        }
+        repriced
+    };
+    let chosen = routes::best_from(from, of_a_part, &Route::lt);
+    chosen.into_iter().map(|route| route.map(repriced)).collect()
 }
 
 /// Each site by its own line.
