@@ -14,7 +14,7 @@ use Rattle.query.specs.declared.Query.{Query}
 use Rattle.query.specs.Choice.{pick}
 use Rattle.query.specs.Cost.{none, some}
 use Rattle.query.specs.Query.{Valid, joinFixed, joinRate, isOpen, lineFixed, lineRate, size}
-use Rattle.query.specs.Prices.{parcels, linePrice, carriage, reads, joinPrice, mostParcels, dearestLine, dearestCarriage}
+use Rattle.query.specs.Prices.{parcels, linePrice, sending, reads, joinPrice, mostParcels, dearestLine}
 use Rattle.query.specs.Spared.{spareable, spared}
 use Rattle.query.specs.Theorems.{ParcelsLaw, LineMost, JoinMost, ReadsSpared, ReadsEither}
 use Rattle.query.proofs.Choice.{pick-all}
@@ -123,33 +123,26 @@ qualified-cheaper q k a a′ P b b′ R h g =
     rw (reads-spared a′ x b′ y, reads-spared a x b y) (omega (arith, spared-most (spareable a x) (spareable b y) _ v w)) in
     omega (arith, mul-le-mul-left (joinRate q k) less)
 
--- What stays where it is costs nothing.
-pub carriage-stays : (q : Query) (P k : ℕ) → carriage q P k k ≡ some 0
-unfolding carriage
-carriage-stays q P k = rw (eq-eqb k k refl)
+-- A send over an open line to another site has the line's price.
+pub sending-open : (q : Query) (P a b : ℕ) → (a ≡ b → ⊥) → isOpen q a b ≡ true → sending q P a b ≡ some (linePrice q P a b)
+unfolding sending
+sending-open q P a b h o = rw (ne-eqb a b h, o)
 
--- An open line to another site has its price.
-pub carriage-sent : (q : Query) (P k t : ℕ) → (k ≡ t → ⊥) → isOpen q k t ≡ true → carriage q P k t ≡ some (linePrice q P k t)
-unfolding carriage
-carriage-sent q P k t h o = rw (ne-eqb k t h, o)
+-- A send whose price is a number goes over an open line to another site, for the line's price.
+pub record Sending (q : Query) (P a b c : ℕ) : Type 0 where
+  pub away : a ≡ b → ⊥
+  pub opened : isOpen q a b ≡ true
+  pub price : c ≡ linePrice q P a b
 
--- A carriage that is a number is nothing at the same site or the price of an open line to another.
-abbrev pub Carried : Query → ℕ → ℕ → ℕ → ℕ → Type 0
-Carried q P k t c = ((k ≡ t) × (c ≡ 0)) ⊎ ((k ≡ t → ⊥) × (isOpen q k t ≡ true) × (c ≡ linePrice q P k t))
-
-pub carried : (q : Query) (P k t c : ℕ) → carriage q P k t ≡ some c → Carried q P k t c
-unfolding carriage
-carried q P k t c e = go (eqb k t) (isOpen q k t) refl refl e
+pub sending-is : (q : Query) (P a b c : ℕ) → sending q P a b ≡ some c → Sending q P a b c
+unfolding sending
+sending-is q P a b c e = go (eqb a b) (isOpen q a b) refl refl e
   where
-    go : (s o : Bool) → eqb k t ≡ s → isOpen q k t ≡ o → pick s (some 0) (pick o (some (linePrice q P k t)) none) ≡ some c → Carried q P k t c
-    go true o h g e = inl (eqb-true k t h, cc)
-    go false true h g e = inr (eqb-false k t h, g, cc)
+    go : (s o : Bool) → eqb a b ≡ s → isOpen q a b ≡ o → pick s none (pick o (some (linePrice q P a b)) none) ≡ some c → Sending q P a b c
+    go true o h g e = absurd (clash (cc))
+    go false true h g e = record { away = eqb-false a b h; opened = g; price = cc }
     go false false h g e = absurd (clash (cc))
 
--- No carriage that is a number is above the dearest one.
-pub carriage-most : (q : Query) → Valid q → (P k t c : ℕ) → carriage q P k t ≡ some c → c ≤ dearestCarriage
-carriage-most q v P k t c e = go (carried q P k t c e)
-  where
-    go : Carried q P k t c → c ≤ dearestCarriage
-    go (inl h) = omega (arith, h .1)
-    go (inr h) = omega (arith, h .2, line-most q v P k t)
+-- No send that is a number is above the dearest line.
+pub sending-most : (q : Query) → Valid q → (P a b c : ℕ) → sending q P a b ≡ some c → c ≤ dearestLine
+sending-most q v P a b c e = let s = sending-is q P a b c e in omega (arith, s .price, line-most q v P a b)

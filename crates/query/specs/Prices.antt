@@ -21,9 +21,9 @@ lineCharge fixed rate size = fixed + rate * parcels size
 unfoldable pub linePrice : Query → ℕ → ℕ → ℕ → ℕ
 linePrice q P a b = lineCharge (lineFixed q a b) (lineRate q a b) (size q P)
 
--- The carriage of P from site k to site t: nothing where it stays, the price of the direct line, none where that is closed.
-unfoldable pub carriage : Query → ℕ → ℕ → ℕ → Cost
-carriage q P k t = pick (eqb k t) (some 0) (pick (isOpen q k t) (some (linePrice q P k t)) none)
+-- The price of sending P from a to b: none where the line is closed, and none from a site to itself, since a send goes to another site.
+unfoldable pub sending : Query → ℕ → ℕ → ℕ → Cost
+sending q P a b = pick (eqb a b) none (pick (isOpen q a b) (some (linePrice q P a b)) none)
 
 -- The smaller of two sizes.
 abbrev pub smaller : ℕ → ℕ → ℕ
@@ -45,16 +45,12 @@ joinCharge fixed rate reads result = fixed + rate * (reads + result)
 unfoldable pub joinPrice : Query → ℕ → Bool → ℕ → Bool → ℕ → ℕ
 joinPrice q k a P b R = joinCharge (joinFixed q k) (joinRate q k) (reads a (size q P) b (size q R)) (size q (P + R))
 
--- How many parcels a size starts at most; and what a line, a carriage and a join cost at most, each amount at its limit (rule 2.9). A carriage
--- takes one line.
+-- How many parcels a size starts at most; and what a line and a join cost at most, each amount at its limit (rule 2.9).
 abbrev pub mostParcels : ℕ
 mostParcels = 125_000_000
 
 abbrev pub dearestLine : ℕ
 dearestLine = 125_001_000_000
-
-abbrev pub dearestCarriage : ℕ
-dearestCarriage = dearestLine
 
 abbrev pub dearestJoin : ℕ
 dearestJoin = 3_000_001_000_000

@@ -1,0 +1,4 @@
+pub mod Answers
+pub mod Costs
+pub mod Least
+pub mod Routes

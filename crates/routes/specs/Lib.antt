@@ -1,0 +1,4 @@
+pub mod Least
+pub mod Routes
+pub mod Theorems
+pub mod Vectors
