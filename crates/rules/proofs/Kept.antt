@@ -1,18 +1,21 @@
--- What loads, sends and joins keep of each held result holds of the result that an allowed plan ends with.
+-- What loads, sends and joins keep of each held result holds of the result that steps end with, of whatever number they are.
 -- The held sets are disjoint and make up what is loaded, so the two operands of a join share no relation.
 use Prim.Native.Nat.{ℕ, suc, _+_, _^_, _<_}
 use mathlib.Core.Path.{_≡_, refl}
 use mathlib.Core.List.{List, [], _∷_}
+use native.Mathlib.Nat.{le-refl}
 use native.Mathlib.Omega.{arith}
+use lib.ListN.{length}
 use Rattle.relations.specs.Sets.{bit, Apart}
 use Rattle.relations.proofs.Bits.{bit-add, single-apart}
 use Rattle.query.specs.declared.Query.{Query}
 use Rattle.query.specs.Query.{relationsOf}
+use Rattle.rules.specs.declared.Step.{Step}
 use Rattle.rules.specs.declared.Held.{Held}
 use Rattle.rules.specs.Machine.{bareOf, Machine, sentTo, joinOf}
-use Rattle.rules.specs.Allowed.{AllowedAt}
+use Rattle.rules.specs.Allowed.{RunAt}
 use Rattle.rules.proofs.Steps.{MayLoad, MaySend, MayJoin, Cases, step-case}
-use Rattle.rules.proofs.Invariants.{Holds, Ends, allowed-ends}
+use Rattle.rules.proofs.Invariants.{Holds, Ends, steps-end}
 
 -- P is kept by every allowed step.
 pub record Keeps (combine : ℕ → ℕ → ℕ) (q : Query) (P : Held → Type 0) : Type 0 where
@@ -46,5 +49,5 @@ module _ (combine : ℕ → ℕ → ℕ) (q : Query) (P : Held → Type 0) (keep
           let operands : Apart (a .set) (b .set) = λ i. omega (arith, member i, apart-b i) in
           (N, keeps .joins e a b may operands pa pb, (λ i. omega (arith, member i, bit-add (a .set) (b .set) operands i, apart-b i)), omega arith, s)
 
-  pub allowed-kept : (plan : List ℕ) (c : ℕ) → AllowedAt combine q plan c → Ends q (Stacks P) c
-  allowed-kept plan c h = allowed-ends combine q (Stacks P) (λ i. step-case combine q _ (stacks i)) plan c refl h
+  pub run-kept : (xs : List Step) (c : ℕ) → RunAt combine q xs c → Ends q (Stacks P) (length xs) c
+  run-kept xs c h = steps-end combine q (Stacks P) (λ i. step-case combine q _ (stacks i)) (length xs) xs c (le-refl _) refl h

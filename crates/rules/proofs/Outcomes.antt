@@ -15,7 +15,7 @@ use Rattle.query.specs.Query.{relationsOf, sitesOf, home, index, mayJoin, joinF
 use Rattle.query.specs.Prices.{linePrice, joinPrice, indexed}
 use Rattle.rules.specs.declared.Origin.the-variants.{Bare}
 use Rattle.rules.specs.declared.Held.{Held}
-use Rattle.rules.specs.Machine.{Machine, Outcome, went, refused, guard, charge, isSent, load, sentTo, sendTop, send, links, qualifies, joinOf, joinTop, join, step}
+use Rattle.rules.specs.Machine.{Machine, Outcome, went, refused, guard, charge, load, sentTo, sendTop, send, links, qualifies, joinOf, joinTop, join, step}
 use Rattle.rules.specs.Code.{topFirst, ofRelations, ofLines, ofListed, listedOf, ofParts}
 
 -- A load.
@@ -37,6 +37,9 @@ module _ (q : Query) (r : ℕ) (m : Machine) (o : Outcome) where
 pub allowed-is : (x y z v w : Bool) → v ≡ w → y ≡ z → ((x && v) && y) ≡ ((x && w) && z)
 allowed-is x y z v w e f = rw (e, f)
 
+pub opened-is : (x v w : Bool) → v ≡ w → (x && v) ≡ (x && w)
+opened-is x v w e = rw e
+
 -- A send.
 module _ (q : Query) (t L : ℕ) (o : Outcome) where
   pub send-unknown : (s : List Held) → sitesOf q ≤ t → o ≡ refused 8 → o ≡ send q t (record { loaded = L; stack = s })
@@ -49,7 +52,7 @@ module _ (q : Query) (t L : ℕ) (o : Outcome) where
   send-none a (suc d) h l e = absurd (omega arith)
 
   abbrev Sendable : Held → Bool → Type 0
-  Sendable h b = b ≡ ((not (eqb (h .site) t) && eqb (getD (q .lines .flag) (8 * h .site + t) 0) 1) && not (isSent (h .origin)))
+  Sendable h b = b ≡ (not (eqb (h .site) t) && eqb (getD (q .lines .flag) (8 * h .site + t) 0) 1)
 
   pub send-not : (s hs : List Held) (h : Held) (b : Bool) → t < sitesOf q → s ≡ h ∷ hs → Sendable h b → b ≡ false → o ≡ refused 10 →
       o ≡ send q t (record { loaded = L; stack = s })

@@ -32,7 +32,7 @@ load-goes combine q r m may = rw (lt-ltb r (relationsOf q) (may .known), eq-eqb 
 pub send-goes : (combine : ℕ → ℕ → ℕ) (q : Query) (t L : ℕ) (h : Held) (hs : List Held) → MaySend q t h →
     step combine q 2 t (record { loaded = L; stack = h ∷ hs }) ≡ went (record { loaded = L; stack = sentTo q t h ∷ hs })
 unfolding step send sendTop
-send-goes combine q t L h hs may = rw (lt-ltb t (sitesOf q) (may .listed), ne-eqb (h .site) t (may .away), may .opened, may .unsent)
+send-goes combine q t L h hs may = rw (lt-ltb t (sitesOf q) (may .listed), ne-eqb (h .site) t (may .away), may .opened)
 
 pub join-goes : (combine : ℕ → ℕ → ℕ) (q : Query) (e L : ℕ) (a b : Held) (hs : List Held) → MayJoin q e a b →
     step combine q 3 e (record { loaded = L; stack = b ∷ (a ∷ hs) }) ≡ went (record { loaded = L; stack = joinOf combine q a b ∷ hs })

@@ -15,7 +15,7 @@ use Rattle.query.specs.Query.{relationsOf, sitesOf, mayJoin, isOpen}
 use Rattle.query.specs.Prices.{linePrice, joinPrice}
 use Rattle.rules.specs.declared.Step.{Step}
 use Rattle.rules.specs.declared.Held.{Held}
-use Rattle.rules.specs.Machine.{Machine, Outcome, went, refused, guard, isSent, bareOf, load, sentTo, sendTop, send, links, qualifies, joinOf, joinTop, join, step}
+use Rattle.rules.specs.Machine.{Machine, Outcome, went, refused, guard, bareOf, load, sentTo, sendTop, send, links, qualifies, joinOf, joinTop, join, step}
 use Rattle.rules.specs.Allowed.{sendPrice, joinStepPrice, stepPrice}
 
 -- What a load of r, a send of h to t and a join of a and b by e ask, so that they go.
@@ -27,7 +27,6 @@ pub record MaySend (q : Query) (t : ℕ) (h : Held) : Type 0 where
   pub listed : t < sitesOf q
   pub away : h .site ≡ t → ⊥
   pub opened : isOpen q (h .site) t ≡ true
-  pub unsent : isSent (h .origin) ≡ false
 
 pub record MayJoin (q : Query) (e : ℕ) (a b : Held) : Type 0 where
   pub known : e < relationsOf q - 1
@@ -63,15 +62,13 @@ module _ (combine : ℕ → ℕ → ℕ) (q : Query) (P : Machine → Outcome �
   send-case t L [] listed = cases .refuses _ 10 _
   send-case t L (h ∷ hs) listed =
       guarded (λ o. P (record { loaded = L; stack = h ∷ hs }) o (linePrice q (h .set) (h .site) t))
-      ((not (eqb (h .site) t) && isOpen q (h .site) t) && not (isSent (h .origin))) 10 _ (cases .refuses _ 10 _) λ allowed.
-      let outer = both-true (not (eqb (h .site) t) && isOpen q (h .site) t) (not (isSent (h .origin))) allowed in
-      let inner = both-true (not (eqb (h .site) t)) (isOpen q (h .site) t) (outer .0) in
+      (not (eqb (h .site) t) && isOpen q (h .site) t) 10 _ (cases .refuses _ 10 _) λ allowed.
+      let inner = both-true (not (eqb (h .site) t)) (isOpen q (h .site) t) allowed in
       cases .sends L t h hs
       (record {
         listed = listed;
         away = eqb-false (h .site) t (not-true (eqb (h .site) t) (inner .0));
         opened = inner .1;
-        unsent = not-true (isSent (h .origin)) (outer .1);
       })
 
   join-case : (e L : ℕ) (hs : List Held) → e < relationsOf q - 1 → P (record { loaded = L; stack = hs }) (joinTop combine q e L hs) (joinStepPrice q hs)

@@ -1,4 +1,4 @@
--- A whole plan: a count byte, 1 to 34, then two bytes a step. Refusals 7 and 12, the places of refusals, and which plans are allowed.
+-- A whole plan: a count byte, 1 to 136, then two bytes a step. Refusals 7 and 12, the places of refusals, and which plans are allowed.
 use Prim.Native.Nat.{ℕ, suc, _+_, _*_}
 use mathlib.Core.Path.{_≡_}
 use mathlib.Core.Bool.{_&&_}
@@ -16,7 +16,7 @@ use Rattle.rules.specs.Machine.{Machine, start, Outcome, went, refused, 
 
 -- How many steps a plan may have, and how many bytes it then has at most: its count, and two a step.
 abbrev pub mostSteps : ℕ
-mostSteps = 34
+mostSteps = 136
 
 abbrev pub longestPlan : ℕ
 longestPlan = 1 + 2 * mostSteps
@@ -47,7 +47,11 @@ unfoldable pub run : (ℕ → ℕ → ℕ) → Query → ℕ → List Step → M
 run combine q i [] m = finish q i (m .stack)
 run combine q i (x ∷ xs) m = after i (step combine q (x .kind) (x .arg) m) (run combine q (suc i) xs)
 
--- A plan's bytes. Refusal 7, which has no place: the count is outside 1 to 34 or the length isn't 1 + 2 × count; an empty plan too.
+-- Steps, of whatever number, that keep all the other rules for the query, and their figure is c.
+abbrev pub RunAt : (ℕ → ℕ → ℕ) → Query → List Step → ℕ → Type 0
+RunAt combine q steps c = run combine q 0 steps start ≡ accepted c
+
+-- A plan's bytes. Refusal 7, which has no place: the count is outside 1 to 136 or the length isn't 1 + 2 × count; an empty plan too.
 unfoldable pub checked : (ℕ → ℕ → ℕ) → Query → List ℕ → Verdict
 checked combine q [] = rejected 7 0
 checked combine q (count ∷ bytes) =

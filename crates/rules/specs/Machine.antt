@@ -42,11 +42,6 @@ isBare Bare = true
 isBare Sent = false
 isBare Joined = false
 
-abbrev pub isSent : Origin → Bool
-isSent Bare = false
-isSent Sent = true
-isSent Joined = false
-
 -- Relation r at its home, as a load puts it on top.
 abbrev pub bareOf : Query → ℕ → Held
 bareOf q r = record { set = 2 ^ r; site = home q r; origin = Bare; figure = charge 0 }
@@ -61,11 +56,11 @@ load q r m =
 abbrev pub sentTo : Query → ℕ → Held → Held
 sentTo q t h = record { set = h .set; site = t; origin = Sent; figure = charge (h .figure .0 + linePrice q (h .set) (h .site) t) }
 
--- 2, send to t: moves the top to t. The line must be open, t another site, and the top not itself made by a send.
+-- 2, send to t: moves the top to t. The line must be open, and t another site. A send may follow a send.
 unfoldable pub sendTop : Query → ℕ → ℕ → List Held → Outcome
 sendTop q t loaded [] = refused 10
 sendTop q t loaded (h ∷ hs) =
-    guard ((not (eqb (h .site) t) && isOpen q (h .site) t) && not (isSent (h .origin))) 10 (went (record { loaded = loaded; stack = sentTo q t h ∷ hs }))
+    guard (not (eqb (h .site) t) && isOpen q (h .site) t) 10 (went (record { loaded = loaded; stack = sentTo q t h ∷ hs }))
 
 unfoldable pub send : Query → ℕ → Machine → Outcome
 send q t m = guard (ltb t (sitesOf q)) 8 (sendTop q t (m .loaded) (m .stack))
@@ -74,7 +69,8 @@ send q t m = guard (ltb t (sitesOf q)) 8 (sendTop q t (m .loaded) (m .stack))
 unfoldable pub links : Joins → ℕ → ℕ → ℕ → Bool
 links J e P R = eqb (bit P (first J e) + bit R (second J e)) 2 || eqb (bit P (second J e) + bit R (first J e)) 2
 
--- Whether a held result qualifies, so that its index can be followed: a bare relation, never sent, that has its index flag set and stands at its home.
+-- Whether a held result qualifies, so that its index can be followed: a bare relation, never sent, that has its index flag set and stands at its home. One
+-- that was sent has lost its index even when it is home again.
 unfoldable pub qualifies : Query → Held → Bool
 qualifies q h = isBare (h .origin) && indexed q (h .set) (h .site)
 

@@ -14,7 +14,7 @@ pub use combining::combine;
 pub use judging::check;
 
 // How many steps a plan may have, and how many bytes it then has at most: its count, and two a step.
-pub const MOST_STEPS: usize = 34;
+pub const MOST_STEPS: usize = 136;
 
 pub const LONGEST_PLAN: usize = 1 + 2 * MOST_STEPS;
 

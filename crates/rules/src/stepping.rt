@@ -22,7 +22,7 @@ ghost use mathlib.Core.Path.{_≡_};
 ghost use mathlib.Core.Bool.{_&&_, not};
 ghost use lib.Dec.{eqb};
 ghost use lib.ListN.{length, getD};
-ghost use Rattle.rules.specs.Machine.{load, send, join, step, links, isSent, went, refused};
+ghost use Rattle.rules.specs.Machine.{load, send, join, step, links, went, refused};
 ghost use Rattle.rules.specs.Allowed.{mostSteps};
 ghost use Rattle.rules.specs.Code.{machineOf, stackOf, outcomeOf, Room, Amounts, Lined, Fair, ofRelations, ofLines, ofListed, ofParts};
 
@@ -70,17 +70,6 @@ fn load(relations: Relations, state: State, r: usize) -> Stepped
     went(loaded + set, push(stack, bare))
 }
 
-// A result was made by a send.
-fn is_sent(origin: Origin) -> bool
-    ensures { λ r. ⌜ r ≡ isSent origin ⌝ }
-{
-    match origin {
-        Origin::Bare => false,
-        Origin::Sent => true,
-        Origin::Joined => false,
-    }
-}
-
 // The flag at a place of a list is set. Past its end none is.
 fn is_set(list: &[u8], i: usize) -> bool
     ensures { λ r. ⌜ r ≡ eqb (getD (now (list .entry)) i 0) 1 ⌝ }
@@ -100,14 +89,13 @@ fn is_open(flag: &[u8], a: usize, b: usize) -> bool
     }
 }
 
-// The top may be sent to t: it stands elsewhere, the line is open, and it was not made by a send.
+// The top may be sent to t: it stands elsewhere, and the line is open.
 fn may_send(flag: &[u8], top: Held, t: usize) -> bool
     requires { ⌜ (length (now flag) ≡ 64) × (t < 8) ⌝ }
-    ensures { λ r. ⌜ r ≡ ((not (eqb (top .site) t) && eqb (getD (now (flag .entry)) (8 * top .site + t) 0) 1) && not (isSent (top .origin))) ⌝ }
+    ensures { λ r. ⌜ r ≡ (not (eqb (top .site) t) && eqb (getD (now (flag .entry)) (8 * top .site + t) 0) 1) ⌝ }
 {
     let from = top.site;
-    let origin = top.origin;
-    (from != t) & is_open(flag, from, t) & !is_sent(origin)
+    (from != t) & is_open(flag, from, t)
 }
 
 // 2, send to t: moves the top to t.

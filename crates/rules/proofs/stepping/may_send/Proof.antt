@@ -1,8 +1,6 @@
--- `stepping::may_send` meets its contract: its three tests are those of the rule. Assumes nothing.
-use mathlib.Core.Path.{ap}
-use mathlib.Core.Bool.{not}
+-- `stepping::may_send` meets its contract: its two tests are those of the rule. Assumes nothing.
 use borrow.Author.Needs.{needs}
-use Rattle.rules.proofs.Outcomes.{allowed-is}
+use Rattle.rules.proofs.Outcomes.{opened-is}
 use Rattle.rules.proofs.stepping.may_send.Statement.{statement}
 use Rattle.rules.proofs.stepping.may_send.Tie as tie
 
@@ -11,5 +9,4 @@ may-send-spec =
     tie.close
     (tie.spec
     (λ c κs. search needs)
-    (λ c κs. search needs)
-    (λ c. search (needs, allowed-is, ap not (c .is-sent .ensures))))
+    (λ c. search (needs, opened-is)))
