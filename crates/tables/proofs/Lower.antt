@@ -1,76 +1,82 @@
--- No allowed plan is cheaper than the tables. Each held result of a plan has cost at least its table: Delivered for a sent result, Joined for
--- a joined one, nothing for a bare relation. A join's operands are the parts of their union, so Joined has that join among its candidates.
-use Prim.Native.Nat.{ℕ, _+_, _≤_, _<_, zero-le}
-use mathlib.Core.Path.{_≡_, ap, subst, _∙_}
+-- No plan is cheaper than the tables. Each held result of a plan has cost at least Delivered of its set where it stands, however it came there,
+-- since a route with a line more is a route. A join's operands are the parts of their union, so Joined has that join among its candidates.
+use Prim.Native.Nat.{ℕ, _+_, _^_, _≤_, _<_, zero-le}
+use mathlib.Core.Path.{_≡_, sym, ap, subst, _∙_}
 use mathlib.Core.Bool.{Bool, true, false}
 use mathlib.Core.Logic.{_⊎_, inl, inr}
 use lib.Count.{ones}
-use native.Mathlib.Nat.{le-refl, add-comm}
+use lib.ListN.{length}
+use native.Mathlib.Nat.{le-refl, add-comm, eq-or-lt-of-le}
 use native.Mathlib.Omega.{arith}
 use Rattle.relations.specs.Sets.{bit, Apart}
 use Rattle.relations.specs.Growth.{first, second}
 use Rattle.relations.specs.Trees.{Subquery}
 use Rattle.relations.specs.Theorems.{Union}
-use Rattle.relations.proofs.Counts.{ones-add, ones-pow, lowest-pow}
-use Rattle.relations.proofs.Leads.{both-true, clash}
+use Rattle.relations.proofs.Counts.{ones-add, ones-pow, lowest-below, lowest-pow}
+use Rattle.relations.proofs.Leads.{both-true}
 use Rattle.relations.proofs.Unions.{union}
 use Rattle.relations.proofs.Subqueries.{subqueries-law}
 use Rattle.query.specs.declared.Query.{Query}
 use Rattle.query.specs.Cost.{some, both, AtMost}
-use Rattle.query.specs.Query.{Valid, relationsOf, sitesOf, home, mayJoin, isOpen}
-use Rattle.query.specs.Prices.{linePrice, carriage, joinPrice, indexed}
-use Rattle.query.proofs.Prices.{join-either, qualified-cheaper, carriage-stays, carriage-sent}
-use Rattle.rules.specs.declared.Origin.{Origin}
-use Rattle.rules.specs.declared.Origin.the-variants.{Bare, Sent, Joined}
+use Rattle.query.specs.Query.{Valid, relationsOf, sitesOf, home, mayJoin}
+use Rattle.query.specs.Prices.{linePrice, sending, joinPrice, indexed}
+use Rattle.query.proofs.Prices.{join-either, qualified-cheaper, sending-open}
+use Rattle.routes.specs.Routes.{carriage}
+use Rattle.routes.proofs.Routes.{number, onward, stays}
 use Rattle.rules.specs.declared.Held.{Held}
 use Rattle.rules.specs.Combine.{Combines}
-use Rattle.rules.specs.Machine.{bareOf, isBare, isSent, sentTo, links, qualifies, joinOf}
+use Rattle.rules.specs.Machine.{bareOf, isBare, sentTo, links, qualifies, joinOf}
 use Rattle.rules.proofs.Links.{links-means}
 use Rattle.rules.proofs.Steps.{MaySend, MayJoin}
-use Rattle.rules.proofs.Invariants.{Ends}
-use Rattle.rules.proofs.Kept.{Keeps, Stacks, allowed-kept}
+use Rattle.rules.proofs.Invariants.{Ends, allowed-run}
+use Rattle.rules.proofs.Kept.{Keeps, Stacks, run-kept}
 use Rattle.tables.specs.Tables.{only, byJoin, bySite, delivered, joined}
-use Rattle.tables.specs.Theorems.{CheapestLaw}
-use Rattle.tables.proofs.Costs.{at-most-is, at-most-more, both-most, plus-most}
-use Rattle.tables.proofs.Tables.{ones-some, delivered-one, delivered-within, joined-within}
+use Rattle.tables.specs.Written.{bestSite}
+use Rattle.tables.specs.Theorems.{AnyStepsLaw, CheapestLaw}
+use Rattle.routes.proofs.Costs.{at-most-is, at-most-more, both-most, plus-most}
+use Rattle.tables.proofs.Tables.{ones-some, BySite, delivered-one, delivered-within, delivered-found, joined-within}
 
 module _ (combine : ℕ → ℕ → ℕ) (laws : Combines combine) (q : Query) (v : Valid q) where
-  abbrev Bounded : Origin → ℕ → ℕ → ℕ → Type 0
-  Bounded Bare S k x = (ones S ≡ 1) × (home q (only q S) ≡ k)
-  Bounded Sent S k x = AtMost (delivered combine q S k) x
-  Bounded Joined S k x = AtMost (joined combine q S k) x × (1 < ones S)
-
-  -- A held result: its set is a subquery, its site is listed, and its figure is no less than its table.
+  -- A held result: its set is a subquery, its site is listed, and its figure is no less than Delivered there.
   record Fine (h : Held) : Type 0 where
     subquery : Subquery (q .joins) (relationsOf q) (h .set)
     listed : h .site < sitesOf q
-    bounded : Bounded (h .origin) (h .set) (h .site) (h .figure .0)
+    bounded : AtMost (delivered combine q (h .set) (h .site)) (h .figure .0)
 
-  -- Whatever a held result is, Delivered at its site is no more than its figure.
-  reaches : (o : Origin) (S k x : ℕ) → Subquery (q .joins) (relationsOf q) S → k < sitesOf q → Bounded o S k x → AtMost (delivered combine q S k) x
-  reaches Bare S k x s l (one, there) =
+  -- A bare relation at its home.
+  stands : (S k x : ℕ) → Subquery (q .joins) (relationsOf q) S → k < sitesOf q → ones S ≡ 1 → home q (only q S) ≡ k → AtMost (delivered combine q S k) x
+  stands S k x s l one there =
       at-most-is (delivered combine q S k) 0 x
-      (delivered-one combine q v S k s one ∙ ap (λ (a : ℕ). carriage q S a k) there ∙ carriage-stays q S k) zero-le
-  reaches Sent S k x s l b = b
-  reaches Joined S k x s l (b, more) =
+      (delivered-one combine q v S k s one ∙ ap (λ (a : ℕ). carriage q S a k) there ∙ stays (sending q S) (sitesOf q) k l) zero-le
+
+  -- A joined result where it was joined.
+  joined-there : (S k x : ℕ) → Subquery (q .joins) (relationsOf q) S → k < sitesOf q → 1 < ones S → AtMost (joined combine q S k) x → AtMost (delivered combine q S k) x
+  joined-there S k x s l more b =
       delivered-within combine q v S k k x s more l
       (at-most-more (bySite (joined combine q S) q S k k) (x + 0) x (omega arith)
-      (plus-most (joined combine q S k) (carriage q S k k) x 0 b (at-most-is (carriage q S k k) 0 0 (carriage-stays q S k) zero-le)))
+      (plus-most (joined combine q S k) (carriage q S k k) x 0 b (at-most-is (carriage q S k k) 0 0 (stays (sending q S) (sitesOf q) k l) zero-le)))
 
-  at-site : (h : Held) → Fine h → AtMost (delivered combine q (h .set) (h .site)) (h .figure .0)
-  at-site h f = reaches (h .origin) (h .set) (h .site) (h .figure .0) (f .subquery) (f .listed) (f .bounded)
-
-  -- A send adds the price of its line.
-  sends : (o : Origin) (S k t x : ℕ) → Subquery (q .joins) (relationsOf q) S → k < sitesOf q → (k ≡ t → ⊥) → isOpen q k t ≡ true → isSent o ≡ false →
-      Bounded o S k x → AtMost (delivered combine q S t) (x + linePrice q S k t)
-  sends Bare S k t x s l away opened fresh (one, there) =
-      at-most-is (delivered combine q S t) (linePrice q S k t) (x + linePrice q S k t)
-      (delivered-one combine q v S t s one ∙ ap (λ (a : ℕ). carriage q S a t) there ∙ carriage-sent q S k t away opened) (omega arith)
-  sends Sent S k t x s l away opened fresh b = absurd (clash (cc))
-  sends Joined S k t x s l away opened fresh (b, more) =
-      delivered-within combine q v S t k (x + linePrice q S k t) s more l
-      (plus-most (joined combine q S k) (carriage q S k t) x (linePrice q S k t) b
-      (at-most-is (carriage q S k t) (linePrice q S k t) (linePrice q S k t) (carriage-sent q S k t away opened) (le-refl _)))
+  -- A send from wherever it is delivered adds the price of its line: the route there and the line are a route to where it goes.
+  pub sends : (S k t x y : ℕ) → Subquery (q .joins) (relationsOf q) S → k < sitesOf q → t < sitesOf q → AtMost (sending q S k t) y → AtMost (delivered combine q S k) x →
+      AtMost (delivered combine q S t) (x + y)
+  sends S k t x y s lk lt line b = go (eq-or-lt-of-le (ones-some q v S s)) (number (delivered combine q S k) x b)
+    where
+      go : (1 ≡ ones S) ⊎ (1 < ones S) → (z : ℕ) × ((delivered combine q S k ≡ some z) × (z ≤ x)) → AtMost (delivered combine q S t) (x + y)
+      go (inl one) there =
+          let h : ℕ = home q (only q S) in
+          let range = subqueries-law (q .joins) (relationsOf q) (v .tree) .range S s in
+          let listed : h < sitesOf q = v .homes (only q S) (lowest-below (relationsOf q) S (range .0) (range .1)) in
+          rw (delivered-one combine q v S t s (sym one))
+          (onward (sending q S) (sitesOf q) h k t x y listed lk lt (rw (delivered-one combine q v S k s (sym one)) at b) line)
+      go (inr more) (z, (is, less)) =
+          let a : ℕ = bestSite combine q S k in
+          let site : BySite combine q v S k a z = delivered-found combine q v S k z s more is in
+          let c : ℕ = site .sum .other in
+          at-most-more (delivered combine q S t) (site .sum .one + (c + y)) (x + y) (omega (arith, site .sum .made))
+          (delivered-within combine q v S t a (site .sum .one + (c + y)) s more (site .listed)
+          (plus-most (joined combine q S a) (carriage q S a t) (site .sum .one) (c + y)
+          (at-most-is (joined combine q S a) (site .sum .one) (site .sum .one) (site .sum .one-is) (le-refl _))
+          (onward (sending q S) (sitesOf q) a k t c y (site .listed) lk lt (at-most-is (carriage q S a k) c c (site .sum .other-is) (le-refl _)) line)))
 
   -- A join of P, with e's first relation, and R, with its second, is a candidate of Joined of their union.
   makes : (P R e k x y z : ℕ) → Union (q .joins) (relationsOf q) P R e → e < q .joins .count → mayJoin q k ≡ true →
@@ -118,7 +124,9 @@ module _ (combine : ℕ → ℕ → ℕ) (laws : Combines combine) (q : Query) (
           record {
             subquery = subqueries-law (q .joins) (relationsOf q) (v .tree) .single r l;
             listed = v .homes r l;
-            bounded = (ones-pow r, ap (home q) (lowest-pow (relationsOf q) r l));
+            bounded =
+                stands (2 ^ r) (home q r) 0 (subqueries-law (q .joins) (relationsOf q) (v .tree) .single r l) (v .homes r l) (ones-pow r)
+                (ap (home q) (lowest-pow (relationsOf q) r l));
           }
 
       sent : (t : ℕ) (h : Held) → MaySend q t h → Fine h → Fine (sentTo q t h)
@@ -126,7 +134,9 @@ module _ (combine : ℕ → ℕ → ℕ) (laws : Combines combine) (q : Query) (
           record {
             subquery = f .subquery;
             listed = may .listed;
-            bounded = sends (h .origin) (h .set) (h .site) t (h .figure .0) (f .subquery) (f .listed) (may .away) (may .opened) (may .unsent) (f .bounded);
+            bounded =
+                sends (h .set) (h .site) t (h .figure .0) (linePrice q (h .set) (h .site) t) (f .subquery) (f .listed) (may .listed)
+                (at-most-is (sending q (h .set) (h .site) t) _ _ (sending-open q (h .set) (h .site) t (may .away) (may .opened)) (le-refl _)) (f .bounded);
           }
 
       made : (e : ℕ) (a b : Held) → MayJoin q e a b → Apart (a .set) (b .set) → Fine a → Fine b → Fine (joinOf combine q a b)
@@ -135,14 +145,19 @@ module _ (combine : ℕ → ℕ → ℕ) (laws : Combines combine) (q : Query) (
           let both-at =
           joins-at (a .set) (b .set) e (b .site) (a .figure .0) (b .figure .0) (qualifies q a) (qualifies q b) (fa .subquery) (fb .subquery) apart known (may .may)
           (may .linked) (λ s. subst (λ (k : ℕ). indexed q (a .set) k ≡ true) (may .there) (qualified a s)) (qualified b)
-          (subst (λ (k : ℕ). AtMost (delivered combine q (a .set) k) (a .figure .0)) (may .there) (at-site a fa)) (at-site b fb) in
+          (subst (λ (k : ℕ). AtMost (delivered combine q (a .set) k) (a .figure .0)) (may .there) (fa .bounded)) (fb .bounded) in
           record {
             subquery = both-at .0;
             listed = fb .listed;
-            bounded = (both-at .1, omega (arith, ones-add (a .set) (b .set) apart, ones-some q v (a .set) (fa .subquery), ones-some q v (b .set) (fb .subquery)));
+            bounded =
+                joined-there (a .set + b .set) (b .site) _ (both-at .0) (fb .listed)
+                (omega (arith, ones-add (a .set) (b .set) apart, ones-some q v (a .set) (fa .subquery), ones-some q v (b .set) (fb .subquery))) (both-at .1);
           }
 
+pub any-steps-law : AnyStepsLaw
+any-steps-law combine laws q v steps c run =
+    let end : Ends q (Stacks (Fine combine laws q v)) (length steps) c = run-kept combine q _ (fine combine laws q v) steps c run in
+    rw (end .whole, end .delivered, end .figure) at (end .kept .1 .bounded)
+
 pub cheapest-law : CheapestLaw
-cheapest-law combine laws q v plan c allowed =
-    let end : Ends q (Stacks (Fine combine laws q v)) c = allowed-kept combine q _ (fine combine laws q v) plan c allowed in
-    rw (end .whole, end .delivered, end .figure) at (at-site combine laws q v (end .held) (end .kept .1))
+cheapest-law combine laws q v plan c allowed = let r = allowed-run combine q plan c allowed in any-steps-law combine laws q v (r .0) c (r .1 .1)

@@ -1,5 +1,5 @@
 -- No figure is above `mostCost`. A plan has at most `mostSteps` steps, of which its run keeps count. In the tables k relations take at most k - 1
--- joins and 2k - 1 carriages.
+-- joins and 2k - 1 carriages, each of at most seven lines.
 use Prim.Native.Nat.{ℕ, zero, suc, _+_, _*_, _≤_, _<_}
 use mathlib.Core.Path.{_≡_, sym, _∙_}
 use mathlib.Core.Logic.{_⊎_, inl, inr}
@@ -10,9 +10,12 @@ use Rattle.relations.specs.Trees.{Subquery}
 use Rattle.query.specs.declared.Query.{Query}
 use Rattle.query.specs.Cost.{some}
 use Rattle.query.specs.Query.{Valid, relationsOf, home}
-use Rattle.query.specs.Prices.{dearestCarriage, dearestJoin, indexed}
-use Rattle.query.proofs.Prices.{join-most, carriage-most}
+use Rattle.query.specs.Prices.{dearestJoin, indexed}
+use Rattle.query.proofs.Prices.{join-most}
+use Rattle.routes.specs.Routes.{dearestCarriage}
+use Rattle.routes.proofs.Routes.{carriage-most}
 use Rattle.rules.specs.Combine.{Combines}
+use Rattle.rules.specs.Allowed.{mostSteps}
 use Rattle.rules.specs.Code.{Room}
 use Rattle.rules.proofs.Invariants.{Ends, allowed-ends}
 use Rattle.rules.proofs.Counting.{start-room, step-room}
@@ -23,7 +26,7 @@ use Rattle.tables.proofs.Tables.{ones-some, ones-most, BySite, ByJoin, 
 
 pub plan-most : PlanMostLaw
 plan-most combine laws q v plan c allowed =
-    let end : Ends q (Room (relationsOf q)) c =
+    let end : Ends q (Room (relationsOf q)) mostSteps c =
     allowed-ends combine q (Room (relationsOf q)) (step-room combine laws q v) plan c (start-room (relationsOf q)) allowed in
     omega (arith, end .few, end .figure, end .kept .held, end .kept .steps, end .kept .small, ones-le (relationsOf q) (end .loaded) (end .kept .in-all), v .relations-most)
 

@@ -16,13 +16,14 @@ use Rattle.query.specs.declared.Query.{Query}
 use Rattle.query.specs.Choice.{pick}
 use Rattle.query.specs.Cost.{Cost, none, some, both, plus, AtMost}
 use Rattle.query.specs.Query.{Valid, relationsOf, sitesOf, home, mayJoin}
-use Rattle.query.specs.Prices.{carriage, joinPrice, indexed}
-use Rattle.tables.specs.Least.{Best, least}
+use Rattle.query.specs.Prices.{joinPrice, indexed}
+use Rattle.routes.specs.Routes.{carriage}
+use Rattle.routes.specs.Least.{Best, least}
 use Rattle.tables.specs.Tables.{firstPart, otherPart, only, byJoin, joinedBy, bySite, deliveredBy, deliveredUpTo, delivered, joined}
 use Rattle.tables.specs.Written.{bestSite, bestJoin}
 use Rattle.tables.specs.Theorems.{DeliveredIs}
-use Rattle.tables.proofs.Costs.{Two, both-found, some-same, picked}
-use Rattle.tables.proofs.Least.{least-most, least-found, best-same}
+use Rattle.routes.proofs.Costs.{Two, both-found, some-same, picked}
+use Rattle.routes.proofs.Least.{least-most, least-found, best-same}
 
 -- A subquery has at least one relation and at most all.
 pub ones-some : (q : Query) → Valid q → (S : ℕ) → Subquery (q .joins) (relationsOf q) S → 0 < ones S

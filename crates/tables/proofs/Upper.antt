@@ -27,7 +27,7 @@ use Rattle.rules.specs.Allowed.{mostSteps, longestPlan, accepted, finish, check
 use Rattle.rules.proofs.Links.{links-of}
 use Rattle.rules.proofs.Runs.{join-goes, ran-then, ran-one, ran-ends}
 use Rattle.tables.specs.Tables.{firstPart, otherPart, delivered, cheapest}
-use Rattle.tables.specs.Written.{joinStep, sendIfDue, bestSite, bestJoin, joinedSteps, deliveredSteps, stepsUpTo, writtenDelivered, writtenSteps, stepBytes, planBytes, written}
+use Rattle.tables.specs.Written.{joinStep, sendsDue, bestSite, bestJoin, joinedSteps, deliveredSteps, stepsUpTo, writtenDelivered, writtenSteps, stepBytes, planBytes, written}
 use Rattle.tables.specs.Theorems.{WrittenLaw}
 use Rattle.tables.proofs.Tables.{ones-some, ones-most, ByJoin, BySite, joined-found, delivered-found}
 use Rattle.tables.proofs.StepBytes.{step-bytes-long, plan-bytes-most, steps-back}
@@ -67,11 +67,11 @@ module _ (combine : ℕ → ℕ → ℕ) (q : Query) where
       free-second : Apart (m .loaded + P) R
       free-second i = omega (arith, free i, members i, bit-add (m .loaded) P free-first i)
 
-  -- Two relations or more: the parts by the best join at the best site, the join, then a send if one is due.
+  -- Two relations or more: the parts by the best join at the best site, the join, then the sends that are due.
   delivers-more : (v : Valid q) (D : ℕ → ℕ → List Step) (S t c : ℕ) → Subquery (q .joins) (relationsOf q) S → 1 < ones S → t < sitesOf q →
       delivered combine q S t ≡ some c →
       ((P k x : ℕ) → Subquery (q .joins) (relationsOf q) P → ones P < ones S → k < sitesOf q → delivered combine q P k ≡ some x → Delivers combine q (D P k) P k x) →
-      Delivers combine q (joinedSteps combine D q S (bestSite combine q S t) ++ sendIfDue (bestSite combine q S t) t) S t c
+      Delivers combine q (joinedSteps combine D q S (bestSite combine q S t) ++ sendsDue q S (bestSite combine q S t) t) S t c
   unfolding joinedSteps qualifies
   delivers-more v D S t c s more listed number fewer =
       let k : ℕ = bestSite combine q S t in
@@ -86,9 +86,9 @@ module _ (combine : ℕ → ℕ → ℕ) (q : Query) where
       subst (λ (z : ℕ). Puts combine q (xs ++ (ys ++ (joinStep e ∷ []))) S k Joined z) (sym (join .made))
       (puts-join xs ys P R S e k (join .one) (join .other) one other (join .parts .apart) (join .parts .whole) known (join .may) linked) in
       let size = lengths xs ys e (ones P) (ones R) (ones S) (one .short) (other .short) (join .smaller .count) in
-      subst (λ (z : ℕ). Delivers combine q ((xs ++ (ys ++ (joinStep e ∷ []))) ++ sendIfDue k t) S t z) (sym (site .sum .made))
-      (due combine q (xs ++ (ys ++ (joinStep e ∷ []))) S k t (site .sum .one) (site .sum .other) Joined puts refl (sym (more-unindexed q S k more))
-      (λ away. more-unindexed q S t more) listed (site .sum .other-is) (size .0) (size .1))
+      subst (λ (z : ℕ). Delivers combine q ((xs ++ (ys ++ (joinStep e ∷ []))) ++ sendsDue q S k t) S t z) (sym (site .sum .made))
+      (due combine q (v .sites-most) (xs ++ (ys ++ (joinStep e ∷ []))) S k t (site .sum .one) (site .sum .other) Joined puts (sym (more-unindexed q S k more))
+      (λ away. more-unindexed q S t more) (site .listed) (site .sum .other-is) (size .0) (size .1))
     where
       site : BySite combine q v S t (bestSite combine q S t) c
       site = delivered-found combine q v S t c s more number
@@ -103,8 +103,8 @@ module _ (combine : ℕ → ℕ → ℕ) (q : Query) where
           (otherPart q S (bestJoin combine q S (bestSite combine q S t))) ≡ true
       linked = links-of (q .joins) _ _ _ (join .parts .first-in) (join .parts .second-in)
 
-      lengths : (xs ys : List Step) (e p r s : ℕ) → length xs + 2 ≤ 4 * p → length ys + 2 ≤ 4 * r → s ≡ p + r →
-          (1 ≤ length (xs ++ (ys ++ (joinStep e ∷ [])))) × (length (xs ++ (ys ++ (joinStep e ∷ []))) + 3 ≤ 4 * s)
+      lengths : (xs ys : List Step) (e p r s : ℕ) → length xs + 8 ≤ 16 * p → length ys + 8 ≤ 16 * r → s ≡ p + r →
+          (1 ≤ length (xs ++ (ys ++ (joinStep e ∷ [])))) × (length (xs ++ (ys ++ (joinStep e ∷ []))) + 15 ≤ 16 * s)
       lengths xs ys e p r s a b c =
           let outer = length-append xs (ys ++ (joinStep e ∷ [])) in
           let inner = length-append ys (joinStep e ∷ []) in
@@ -121,7 +121,7 @@ module _ (combine : ℕ → ℕ → ℕ) (q : Query) where
           ((P k x : ℕ) → Subquery (q .joins) (relationsOf q) P → ones P < ones S → k < sitesOf q → delivered combine q P k ≡ some x →
           Delivers combine q (stepsUpTo combine q f P k) P k x) →
           Delivers combine q (deliveredSteps combine (joinedSteps combine (stepsUpTo combine q f) q S) q S t) S t c
-      go (inl one) fewer = rw (eq-eqb (ones S) 1 (sym one)) (delivers-one combine q v S t c s (sym one) listed e)
+      go (inl one) fewer = rw (eq-eqb (ones S) 1 (sym one)) (delivers-one combine q v S t c s (sym one) e)
       go (inr more) fewer = rw (ne-eqb (ones S) 1 (λ h. omega arith)) (delivers-more v (stepsUpTo combine q f) S t c s more listed e fewer)
 
 -- Steps that put every relation at the query site make an allowed plan.

@@ -13,7 +13,7 @@ use Rattle.query.specs.declared.Query.{Query}
 use Rattle.query.specs.Cost.{some}
 use Rattle.query.specs.Query.{Valid, relationsOf}
 use Rattle.tables.specs.Tables.{firstPart, otherPart, delivered, joined}
-use Rattle.tables.specs.Written.{sendIfDue, bestSite, bestJoin, joinedSteps, deliveredSteps, stepsUpTo, writtenDelivered, writtenJoined}
+use Rattle.tables.specs.Written.{sendsDue, bestSite, bestJoin, joinedSteps, deliveredSteps, stepsUpTo, writtenDelivered, writtenJoined}
 use Rattle.tables.specs.Theorems.{WrittenIs}
 use Rattle.tables.proofs.Tables.{ones-some, ones-most, BySite, ByJoin, delivered-found, joined-found}
 use Rattle.rules.specs.declared.Step.{Step}
@@ -45,7 +45,7 @@ module _ (combine : ℕ → ℕ → ℕ) (q : Query) (v : Valid q) where
           let k : ℕ = bestSite combine q S t in
           let site : BySite combine q v S t k c = delivered-found combine q v S t c s more number in
           rw (ne-eqb (ones S) 1 (λ h. omega arith))
-          (ap (λ (xs : List Step). xs ++ sendIfDue k t) (joined-steps-same D E S k (site .sum .one) s (site .sum .one-is) (same k)))
+          (ap (λ (xs : List Step). xs ++ sendsDue q S k t) (joined-steps-same D E S k (site .sum .one) s (site .sum .one-is) (same k)))
 
   steps-same : (f g S t c : ℕ) → Subquery (q .joins) (relationsOf q) S → ones S ≤ f → ones S ≤ g → delivered combine q S t ≡ some c →
       stepsUpTo combine q f S t ≡ stepsUpTo combine q g S t

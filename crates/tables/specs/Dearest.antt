@@ -22,15 +22,20 @@ atTheLimits =
       target = 0;
     }
 
+-- Seven sends, to and fro between two sites, that end at the first.
+abbrev pub sevenSends : (to fro : ℕ) → List ℕ → List ℕ
+sevenSends to fro bytes = 2 ∷ to ∷ 2 ∷ fro ∷ 2 ∷ to ∷ 2 ∷ fro ∷ 2 ∷ to ∷ 2 ∷ fro ∷ 2 ∷ to ∷ bytes
+
 -- Relation e + 1 is loaded and sent to where the result of relations 0 to e stands; join e joins the two there, and what it makes is sent on.
 abbrev pub joinAndSend : (e here there : ℕ) → List ℕ → List ℕ
-joinAndSend e here there bytes = 1 ∷ suc e ∷ 2 ∷ here ∷ 3 ∷ e ∷ 2 ∷ there ∷ bytes
+joinAndSend e here there bytes = 1 ∷ suc e ∷ sevenSends here there (3 ∷ e ∷ sevenSends there here bytes)
 
--- 34 steps: each relation is sent, and so is each joined result.
+-- 136 steps: each relation is sent seven times, and so is each joined result.
 abbrev pub dearestPlan : List ℕ
 dearestPlan =
-    34 ∷ 1 ∷ 0 ∷ 2 ∷ 1
-    ∷ joinAndSend 0 1 2 (joinAndSend 1 2 1 (joinAndSend 2 1 2 (joinAndSend 3 2 1 (joinAndSend 4 1 2 (joinAndSend 5 2 1 (joinAndSend 6 1 2 (joinAndSend 7 2 0 [])))))))
+    136 ∷ 1 ∷ 0
+    ∷ sevenSends 1 2
+    (joinAndSend 0 1 2 (joinAndSend 1 2 1 (joinAndSend 2 1 2 (joinAndSend 3 2 1 (joinAndSend 4 1 2 (joinAndSend 5 2 1 (joinAndSend 6 1 2 (joinAndSend 7 2 0 []))))))))
 
 pub record MostReached : Type 0 where
   pub valid : Valid atTheLimits

@@ -109,7 +109,7 @@ rows =
     ∷ costs (withTarget 2 Q) (some 23)
     ∷ costs (withIndex (1 ∷ []) Q) (some 11)
     ∷ costs (withMay (0 ∷ 1 ∷ 1 ∷ []) Q) (some 24)
-    ∷ costs (withLines (closing 1 0 (Q .lines)) Q) (some 26)
+    ∷ costs (withLines (closing 1 0 (Q .lines)) Q) (some 23)
     ∷ costs (withLines (closing 2 0 (closing 1 0 (Q .lines))) Q) none
     ∷ joinsAt (withLines (everyLine 3 3 (record { flag = 1; fixed = 0; rate = 0 })) Q) (some 19) 0
     ∷ takes (alone Q) (some 0) 1 0

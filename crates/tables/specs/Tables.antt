@@ -11,8 +11,9 @@ use Rattle.query.specs.declared.Query.{Query}
 use Rattle.query.specs.Choice.{pick}
 use Rattle.query.specs.Cost.{Cost, none, some, both, plus}
 use Rattle.query.specs.Query.{relationsOf, sitesOf, home, mayJoin}
-use Rattle.query.specs.Prices.{carriage, joinPrice, indexed}
-use Rattle.tables.specs.Least.{least}
+use Rattle.query.specs.Prices.{joinPrice, indexed}
+use Rattle.routes.specs.Least.{least}
+use Rattle.routes.specs.Routes.{carriage}
 
 -- The parts of S by join e: the one with e's first relation, and the other.
 abbrev pub firstPart : Query → ℕ → ℕ → ℕ

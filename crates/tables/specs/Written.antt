@@ -8,7 +8,8 @@ use Rattle.relations.specs.Sets.{all}
 use Rattle.query.specs.declared.Query.{Query}
 use Rattle.query.specs.Choice.{pick}
 use Rattle.query.specs.Query.{relationsOf, sitesOf, home}
-use Rattle.tables.specs.Least.{lowestAt}
+use Rattle.routes.specs.Least.{lowestAt}
+use Rattle.routes.specs.Routes.{route}
 use Rattle.tables.specs.Tables.{firstPart, otherPart, only, byJoin, bySite, delivered, joined}
 use Rattle.rules.specs.declared.Step.{Step}
 
@@ -21,9 +22,13 @@ sendStep t = record { kind = 2; arg = t }
 abbrev pub joinStep : ℕ → Step
 joinStep e = record { kind = 3; arg = e }
 
--- A send from k to t if one is due.
-abbrev pub sendIfDue : ℕ → ℕ → List Step
-sendIfDue k t = pick (eqb k t) [] (sendStep t ∷ [])
+-- A send to each of some sites in turn; and those of the route from k to t, none where it stays.
+abbrev pub sendSteps : List ℕ → List Step
+sendSteps [] = []
+sendSteps (m ∷ ms) = sendStep m ∷ sendSteps ms
+
+abbrev pub sendsDue : Query → ℕ → ℕ → ℕ → List Step
+sendsDue q S k t = sendSteps (route q S k t)
 
 -- The site where S is joined for Delivered(S, t), and the join that is taken last for Joined(S, k).
 unfoldable pub bestSite : (ℕ → ℕ → ℕ) → Query → ℕ → ℕ → ℕ
@@ -38,12 +43,12 @@ joinedSteps combine D q S k =
     let e = bestJoin combine q S k in
     D (firstPart q S e) k ++ (D (otherPart q S e) k ++ (joinStep e ∷ []))
 
--- The steps for Delivered(S, t) by those (J) for Joined of S: the load for one relation, else the join's steps; then a send if one is due.
+-- The steps for Delivered(S, t) by those (J) for Joined of S: the load for one relation, else the join's steps; then the sends that are due.
 unfoldable pub deliveredSteps : (ℕ → ℕ → ℕ) → (ℕ → List Step) → Query → ℕ → ℕ → List Step
 deliveredSteps combine J q S t =
-    pick (eqb (ones S) 1) (loadStep (only q S) ∷ sendIfDue (home q (only q S)) t)
+    pick (eqb (ones S) 1) (loadStep (only q S) ∷ sendsDue q S (home q (only q S)) t)
     (let k = bestSite combine q S t in
-    J k ++ sendIfDue k t)
+    J k ++ sendsDue q S k t)
 
 -- The written steps of subqueries of up to f relations.
 unfoldable pub stepsUpTo : (ℕ → ℕ → ℕ) → Query → ℕ → ℕ → ℕ → List Step
