@@ -55,13 +55,13 @@ laid-all old new i k g a h = record { kept = a .kept; each = λ j l. a .each j (
 pub laid-as : (old new row : List ℕ) (i : ℕ) (g : ℕ → ℕ) → Laid old new i (λ k. getD row k 0) 8 → Lanes row g → Laid old new i g 8
 laid-as old new row i g a l = record { kept = a .kept; each = λ k h. a .each k h ∙ l .each k h }
 
--- A row whose lane k is then cleared.
-pub lanes-but : (row : List ℕ) (k : ℕ) (g : ℕ → ℕ) → Lanes row g → k < 8 → Lanes (set row k 0) (λ t. pick (eqb k t) 0 (g t))
-lanes-but row k g l h = record { long = length-set row k 0 ∙ l .long; each = λ t m. go t m (eqb k t) refl }
+-- A row whose lane k is then another.
+pub lanes-but : (row : List ℕ) (k v : ℕ) (g : ℕ → ℕ) → Lanes row g → k < 8 → Lanes (set row k v) (λ t. pick (eqb k t) v (g t))
+lanes-but row k v g l h = record { long = length-set row k v ∙ l .long; each = λ t m. go t m (eqb k t) refl }
   where
-    go : (t : ℕ) → t < 8 → (s : Bool) → eqb k t ≡ s → getD (set row k 0) t 0 ≡ pick s 0 (g t)
-    go t m true e = rw (← eqb-true k t e) (getD-set-same row k 0 0 (omega (arith, l .long)))
-    go t m false e = getD-set-other row k t 0 0 (λ q. eqb-false k t e (cc)) ∙ l .each t m
+    go : (t : ℕ) → t < 8 → (s : Bool) → eqb k t ≡ s → getD (set row k v) t 0 ≡ pick s v (g t)
+    go t m true e = rw (← eqb-true k t e) (getD-set-same row k v 0 (omega (arith, l .long)))
+    go t m false e = getD-set-other row k t v 0 (λ q. eqb-false k t e (cc)) ∙ l .each t m
 
 -- Rows: one more, and those that a step outside of them leaves.
 module _ (old new : List ℕ) (i : ℕ) (g : ℕ → ℕ → ℕ) (m : ℕ) (a : Rows old i g m) where

@@ -62,7 +62,8 @@ joinsAt b = getD b 313 0
 abbrev pub sitesAt : List ℕ → ℕ
 sitesAt b = getD b 314 0
 
--- What the loops find there: none in the fixed amount where a site may not join and where a line is closed, nothing from a site to itself.
+-- What the loops find there: none in the fixed amount where a site may not join, where a line is closed, and from a site to itself: a send goes to
+-- another site.
 unfoldable pub fixedOf : Query → ℕ → ℕ
 fixedOf q k = pick (mayJoin q k) (joinFixed q k) noneMark
 
@@ -70,7 +71,7 @@ unfoldable pub spareableOf : Query → ℕ → ℕ → ℕ
 spareableOf q r k = spareable (eqb (home q r) k && index q r) (size q (2 ^ r))
 
 unfoldable pub lineFixedOf : Query → ℕ → ℕ → ℕ
-lineFixedOf q k t = pick (eqb k t) 0 (pick (isOpen q k t) (lineFixed q k t) noneMark)
+lineFixedOf q k t = pick (eqb k t) noneMark (pick (isOpen q k t) (lineFixed q k t) noneMark)
 
 unfoldable pub lineRateOf : Query → ℕ → ℕ → ℕ
 lineRateOf q k t = pick (eqb k t) 0 (lineRate q k t)

@@ -35,7 +35,7 @@ unfoldable pub spareableIn : (home index sizes : List ℕ) → ℕ → ℕ → �
 spareableIn home index sizes r k = spareable (eqb (getD home r 0) k && eqb (getD index r 0) 1) (getD sizes (2 ^ r) 0)
 
 abbrev pub lineFixedIn : (flag fixed : List ℕ) → ℕ → ℕ → ℕ
-lineFixedIn flag fixed k t = pick (eqb k t) 0 (ifFlagged (getD flag (8 * k + t) 0) (getD fixed (8 * k + t) 0))
+lineFixedIn flag fixed k t = pick (eqb k t) noneMark (ifFlagged (getD flag (8 * k + t) 0) (getD fixed (8 * k + t) 0))
 
 abbrev pub lineRateIn : List ℕ → ℕ → ℕ → ℕ
 lineRateIn rate k t = pick (eqb k t) 0 (getD rate (8 * k + t) 0)

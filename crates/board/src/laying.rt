@@ -177,7 +177,7 @@ fn lay_pairs<'a>(
     }
 }
 
-// The fixed amounts of the lines of sender k: none where a line is closed, nothing to itself.
+// The fixed amounts of the lines of sender k: none where a line is closed, and none to itself.
 fn line_fixed_row<'a>(flag: &'a [u8; 64], fixed: &'a [u32; 64], k: usize) -> [u64; 8]
     requires { ⌜ k < 8 ⌝ }
     ensures { λ r. ⌜ Lanes r (lineFixedIn (now (flag .entry)) (now (fixed .entry)) k) ⌝ }
@@ -188,7 +188,7 @@ fn line_fixed_row<'a>(flag: &'a [u8; 64], fixed: &'a [u32; 64], k: usize) -> [u6
         row[t] = if_flagged(flag[8 * k + t], fixed[8 * k + t]);
         t += 1;
     }
-    row[k] = 0;
+    row[k] = NONE;
     row
 }
 

@@ -1,4 +1,4 @@
--- What a valid query's board gives: what is spared of two parts, the price of a join and the carriage of a line are the definitions', and each keeps to
+-- What a valid query's board gives: what is spared of two parts, the price of a join and that of a line are the definitions', and each keeps to
 -- the limits that the sums ask.
 use Prim.Native.Nat.{ℕ, _+_, _*_, _^_, _≤_, _<_}
 use native.Mathlib.Nat.{le-refl}
@@ -16,14 +16,15 @@ use Rattle.query.specs.declared.Query.{Query}
 use Rattle.query.specs.Choice.{pick}
 use Rattle.query.specs.Cost.{none, some}
 use Rattle.query.specs.Query.{Valid, relationsOf, sitesOf, mayJoin, joinFixed, joinRate, isOpen, lineFixed, lineRate, size}
-use Rattle.query.specs.Prices.{lineCharge, linePrice, carriage, reads, joinPrice, dearestLine, indexed}
+use Rattle.query.specs.Prices.{lineCharge, linePrice, sending, reads, joinPrice, dearestLine, indexed}
 use Rattle.query.specs.Spared.{spareable, spared}
 use Rattle.query.proofs.Prices.{line-most, spareable-most, spared-most, spared-alone, reads-spared}
 use Rattle.query.proofs.Indexed.{one-of-nine}
 use Rattle.tables.specs.Tables.{only}
 use Rattle.board.specs.Figures.{noneMark}
 use Rattle.board.specs.Board.{lane, fixedAt, operandRow, sparedRow, fixedOf, spareableOf, lineFixedOf, lineRateOf}
-use Rattle.filler.specs.Trials.{Lent, sizeIn, priceIn, Priced, carriageIn, Carriable}
+use Rattle.filler.specs.Trials.{Lent, sizeIn, priceIn, Priced}
+use Rattle.sender.specs.Delivering.{lineIn, Carriable}
 use Rattle.filler.specs.Filling.{LaidOut}
 use Rattle.filler.proofs.Places.{set-low}
 use Rattle.filler.proofs.Marks.{Shows}
@@ -155,16 +156,16 @@ module _ (q : Query) (l : Lent) (laid : LaidOut q l) where
         sizes-most = λ i. rw (laid .sizes) (laid .valid .sizes-most i);
       }
 
-  -- The carriage of a set over a line, and the lines' limits.
-  pub carriage-shows : (S k t : ℕ) → k < sitesOf q → t < 8 → Shows dearestLine (carriageIn (l .board) (sizeIn l S) k t) (carriage q S k t)
-  unfolding carriageIn lineFixedOf lineRateOf carriage linePrice size
-  carriage-shows S k t h low =
+  -- What a line charges for a set, and the lines' limits.
+  pub line-shows : (S k t : ℕ) → k < sitesOf q → t < 8 → Shows dearestLine (lineIn (l .board) (sizeIn l S) k t) (sending q S k t)
+  unfolding lineIn lineFixedOf lineRateOf sending linePrice size
+  line-shows S k t h low =
       rw (laid .board .line-fixed k t h low, laid .board .line-rate k t h low, laid .sizes) (go (eqb k t) (isOpen q k t))
     where
       go : (same opened : Bool) →
-          Shows dearestLine (lineCharge (pick same 0 (pick opened (lineFixed q k t) noneMark)) (pick same 0 (lineRate q k t)) (getD (q .sizes) S 0))
-          (pick same (some 0) (pick opened (some (lineCharge (lineFixed q k t) (lineRate q k t) (getD (q .sizes) S 0))) none))
-      go true opened = (omega arith, omega arith)
+          Shows dearestLine (lineCharge (pick same noneMark (pick opened (lineFixed q k t) noneMark)) (pick same 0 (lineRate q k t)) (getD (q .sizes) S 0))
+          (pick same none (pick opened (some (lineCharge (lineFixed q k t) (lineRate q k t) (getD (q .sizes) S 0))) none))
+      go true opened = omega arith
       go false true = (refl, line-most q (laid .valid) S k t)
       go false false = omega arith
 
@@ -172,8 +173,8 @@ module _ (q : Query) (l : Lent) (laid : LaidOut q l) where
   unfolding lineFixedOf lineFixed
   line-fixed-most k t = go (eqb k t) (isOpen q k t)
     where
-      go : (same opened : Bool) → pick same 0 (pick opened (getD (q .lines .fixed) (8 * k + t) 0) noneMark) ≤ noneMark
-      go true opened = omega arith
+      go : (same opened : Bool) → pick same noneMark (pick opened (getD (q .lines .fixed) (8 * k + t) 0) noneMark) ≤ noneMark
+      go true opened = le-refl _
       go false true = omega (arith, laid .valid .line-fixed-most (8 * k + t))
       go false false = le-refl _
 

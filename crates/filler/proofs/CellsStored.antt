@@ -11,8 +11,9 @@ use borrow.Author.Tests.{eq-eqb, ne-eqb}
 use Rattle.relations.specs.Code.{Listed}
 use Rattle.board.specs.Board.{homesAt, sitesAt}
 use Rattle.filler.specs.Cells.{Stored}
-use Rattle.filler.specs.Trials.{Lent, sizeIn, AtSites, joinedIn, bareAt, startIn, carriageIn, Carriable, siteTrial, deliveredIn}
-use Rattle.board.proofs.LeastFigures.{least-same}
+use Rattle.filler.specs.Trials.{Lent, sizeIn, joinedIn, bareAt, startIn}
+use Rattle.sender.specs.Rows.{AtSites}
+use Rattle.sender.specs.Delivering.{Carriable, DeliveredFrom}
 
 pub stored-none : (old : List ℕ) (at : ℕ) (g : ℕ → ℕ) → Stored old old at g 0
 stored-none old at g = record { kept = record { long = refl; below = λ i l. refl; above = λ i l. refl }; each = below-none _ }
@@ -39,27 +40,25 @@ stored-pair old new at i j v w g t s room e f here next =
     subst (Stored old (set (set new i v) j w) at g) two
     (stored-more old (set new i v) at j w g (t + 1) (stored-more old new at i v g t s e (omega arith) here) (omega arith) (omega arith) next)
 
--- What comes by way of a site, and the same from rows that agree.
-pub site-is : (row : ℕ → ℕ) (b : List ℕ) (size t k : ℕ) → row k + carriageIn b size k t ≡ siteTrial row b size t k
-unfolding siteTrial
-site-is row b size t k = refl
-
-pub delivered-same : (f g : ℕ → ℕ) (b : List ℕ) (x y t : ℕ) → ((k : ℕ) → k < sitesAt b → f k ≡ g k) → x ≡ y → deliveredIn f b x t ≡ deliveredIn g b y t
-unfolding siteTrial
-delivered-same f g b x y t same e = least-same _ _ (sitesAt b) (λ k h. rw (same k h, e))
-
-stored-same : (old new : List ℕ) (at : ℕ) (f g : ℕ → ℕ) (m : ℕ) → Stored old new at f m → ((t : ℕ) → t < m → f t ≡ g t) → Stored old new at g m
-stored-same old new at f g m s same = record { kept = s .kept; each = λ t h. s .each t h ∙ same t h }
-
-pub stored-lanes : (old new row : List ℕ) (at : ℕ) (g : ℕ → ℕ) (m : ℕ) → Stored old new at (λ (t : ℕ). getD row t 0) m → Listed row g 8 8 → m ≤ 8 → Stored old new at g m
-stored-lanes old new row at g m s l few = stored-same old new at _ g m s (λ t h. l .each t (omega arith))
+-- What is delivered from a row of which the sites' figures are others' too.
+pub delivered-same : (b : List ℕ) (x y : ℕ) (f g : ℕ → ℕ) (new : List ℕ) → ((k : ℕ) → k < sitesAt b → f k ≡ g k) → x ≡ y → DeliveredFrom b x f new → DeliveredFrom b y g new
+delivered-same b x y f g new same e d =
+    subst (λ (z : ℕ). DeliveredFrom b z g new) e
+    (record {
+      between = record {
+        marked = d .between .marked;
+        below = λ t h. omega (arith, d .between .below t h, same t h);
+        greatest = λ D under uncut. d .between .greatest D (λ t h. omega (arith, under t h, same t h)) uncut;
+      };
+      uncut = d .uncut;
+    })
 
 -- What is stored from the row that a subquery starts from.
 pub stored-start : (combine : ℕ → ℕ → ℕ) (l : Lent) (joins S at m : ℕ) (old new row : List ℕ) (x : ℕ) → AtSites (sitesAt (l .board)) row (startIn combine l joins S) →
-    x ≡ sizeIn l S → Stored old new at (deliveredIn (λ (k : ℕ). getD row k 0) (l .board) x) m →
-    Stored old new at (deliveredIn (startIn combine l joins S) (l .board) (sizeIn l S)) m
-stored-start combine l joins S at m old new row x r size s =
-    stored-same old new at _ _ m s (λ t h. delivered-same _ _ (l .board) x (sizeIn l S) t (r .each) size)
+    x ≡ sizeIn l S → (r : List ℕ) × (DeliveredFrom (l .board) x (λ (k : ℕ). getD row k 0) r × Stored old new at (λ (t : ℕ). getD r t 0) m) →
+    (r : List ℕ) × (DeliveredFrom (l .board) (sizeIn l S) (startIn combine l joins S) r × Stored old new at (λ (t : ℕ). getD r t 0) m)
+stored-start combine l joins S at m old new row x lanes size (r, (d, s)) =
+    (r, (delivered-same (l .board) x (sizeIn l S) (λ (k : ℕ). getD row k 0) (startIn combine l joins S) r (lanes .each) size d, s))
 
 -- A subquery starts where its one relation stands, or where it is joined.
 pub sized : (b : List ℕ) (x y : ℕ) → y ≡ x → Carriable b x → Carriable b y

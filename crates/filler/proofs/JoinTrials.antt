@@ -20,7 +20,7 @@ use Rattle.query.specs.Prices.{joinPrice, dearestJoin, indexed}
 use Rattle.query.proofs.Prices.{join-most}
 use Rattle.rules.specs.Combine.{Combines}
 use Rattle.rules.proofs.Combinations.{plus-combines}
-use Rattle.tables.specs.Least.{best, least}
+use Rattle.routes.specs.Least.{best, least}
 use Rattle.tables.specs.Tables.{firstPart, otherPart, byJoin, joinedBy, delivered, joined}
 use Rattle.tables.specs.Theorems.{mostCost}
 use Rattle.board.specs.Figures.{noneMark, mark, leastOf, placeOf}

@@ -16,9 +16,11 @@ use Rattle.relations.proofs.Walks.{From, from-first, none-from, lowest-left, lo
 use Rattle.board.specs.Figures.{noneMark, leastOf, Marked}
 use Rattle.board.specs.Board.{sideAt, sparedRow, sitesAt}
 use Rattle.filler.specs.Cells.{reach}
-use Rattle.filler.specs.Trials.{Lent, trialOf, Triable, partsAt, trialBy, TriableBy, AtSites, TriedAt, joinTrial, Joinable, joinedIn}
+use Rattle.filler.specs.Trials.{Lent, trialOf, Triable, partsAt, trialBy, TriableBy, joinTrial, Joinable, joinedIn}
+use Rattle.sender.specs.Rows.{AtSites, TriedAt}
 use Rattle.filler.proofs.Places.{reach-least}
-use Rattle.filler.proofs.Turns.{none-marked, least-none, least-more, least-past}
+use Rattle.sender.proofs.Rows.{none-marked}
+use Rattle.filler.proofs.Turns.{least-none, least-more, least-past}
 
 -- Its figure where a join is among the bits, and where it is not.
 module _ (combine : ℕ → ℕ → ℕ) (l : Lent) (joins S k e : ℕ) where

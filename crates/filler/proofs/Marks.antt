@@ -11,7 +11,7 @@ use borrow.Author.Tests.{lt-ltb, le-ltb}
 use Rattle.query.specs.Choice.{pick}
 use Rattle.query.specs.Cost.{Cost, none, some, both}
 use Rattle.rules.specs.Combine.{Combines}
-use Rattle.tables.specs.Least.{Best, better, best, least}
+use Rattle.routes.specs.Least.{Best, better, best, least}
 use Rattle.board.specs.Figures.{noneMark, mark, lesser, leastOf, placeOf}
 
 -- A cost that is at most n, or none; and a figure for such a cost, which for none need only be no less than that of none.

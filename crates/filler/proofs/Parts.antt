@@ -89,7 +89,7 @@ module _ (combine : ℕ → ℕ → ℕ) (C : Combines combine) (q : Query) (l :
     cell-most : cellIn l P k ≤ noneMark
     cell-most = rw (placed P k p less) (filled .most P k less p low)
 
-  triable : (e k : ℕ) → e < q .joins .count → inside (q .joins) S e ≡ true → k < reach (sitesOf q) → Triable l (firstPart q S e) (otherPart q S e) (sparedRow (firstPart q S e) (otherPart q S e) e) k
+  pub triable : (e k : ℕ) → e < q .joins .count → inside (q .joins) S e ≡ true → k < reach (sitesOf q) → Triable l (firstPart q S e) (otherPart q S e) (sparedRow (firstPart q S e) (otherPart q S e) e) k
   triable e k h within low =
       let parts = grown-split (q .joins) (relationsOf q) (laid .valid .tree) S e s h within in
       let small = split-smaller (q .joins) (relationsOf q) S e _ parts in

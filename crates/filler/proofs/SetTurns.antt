@@ -2,7 +2,7 @@
 -- in it, and the cells that are stored for it are Delivered.
 use Prim.Native.Nat.{ℕ, _+_, _-_, _*_, _%_, _^_, _≤_, _<_}
 use native.Mathlib.Omega.{arith}
-use mathlib.Core.Path.{_≡_, refl, sym, ap, _∙_}
+use mathlib.Core.Path.{_≡_, refl, sym, ap, subst, _∙_}
 use mathlib.Core.Bool.{Bool, true, false}
 use mathlib.Core.List.{List}
 use lib.Count.{ones, ones-le}
@@ -16,7 +16,7 @@ use Rattle.relations.proofs.Subqueries.{subqueries-law}
 use Rattle.subqueries.specs.Table.{isConnected}
 use Rattle.subqueries.proofs.Entries.{tested, entry-joins}
 use Rattle.query.specs.declared.Query.{Query}
-use Rattle.query.specs.Query.{relationsOf}
+use Rattle.query.specs.Query.{relationsOf, sitesOf}
 use Rattle.rules.specs.Combine.{Combines}
 use Rattle.tables.proofs.Tables.{ones-some}
 use Rattle.tables.specs.Work.{mostCells}
@@ -24,16 +24,22 @@ use Rattle.tables.proofs.Trials.{joins-below}
 use Rattle.tables.proofs.Work.{most-cells}
 use Rattle.filler.specs.Cells.{reach, Stored}
 use Rattle.board.specs.Board.{joinsAt, sitesAt}
-use Rattle.board.proofs.LeastFigures.{least-most}
-use Rattle.filler.specs.Trials.{Lent, lent, sizeIn, Startable, startIn, deliveredIn}
+use Rattle.filler.specs.Trials.{Lent, lent, sizeIn, Startable, startIn}
+use Rattle.sender.specs.Delivering.{Carriable, DeliveredFrom}
 use Rattle.filler.specs.Filling.{LaidOut, Fillable}
-use Rattle.filler.proofs.Places.{place-low, reach-within}
+use Rattle.filler.proofs.Places.{place-low, reach-within, reach-eight}
+use Rattle.filler.proofs.Boards.{lines-carriable}
 use Rattle.filler.proofs.Columns.{startable, cells-are}
 use Rattle.filler.proofs.SetsFilled.{Going, going-skip, going-on}
 
 module _ (q : Query) (l : Lent) (table : List ℕ) (f : Fillable q l table) where
   pub joins-few : joinsAt (l .board) ≤ 8
   joins-few = let v = f .laid .valid in omega (arith, f .laid .board .joins, v .tree .joins, v .relations-most)
+
+  pub lines-here : Carriable (l .board) 0
+  lines-here =
+      let c = lines-carriable q l (f .laid) 0 in
+      record { few = c .few; fixed-most = c .fixed-most; rate-most = c .rate-most; size-most = omega arith }
 
   -- The sets end where they should.
   pub end-is : (e : ℕ) → e ≡ all (joinsAt (l .board) + 1) → e ≡ all (relationsOf q)
@@ -97,11 +103,12 @@ module _ (combine : ℕ → ℕ → ℕ) (C : Combines combine) (b sizes table b
         (omega (arith, g .next-is, reach-within q v S (all (relationsOf q)) subquery (subqueries-law (q .joins) (relationsOf q) (v .tree) .whole) (omega arith), g .cells .room))
 
     pub turn-on : (j : ℕ) → j ≡ getD table S 0 % 256 → (new noted : List ℕ) (at then : ℕ) → at ≡ next → noted ≡ set places S at → then ≡ next + sitesAt b →
-        Stored work new next (deliveredIn (startIn combine (lent b sizes places work) j S) b (sizeIn (lent b sizes places work) S)) (reach (sitesAt b)) →
-        Going combine q old new noted (S + 1) then (tried + (ones S - 1))
-    turn-on j joins new noted at then is note after stored =
+        (r : List ℕ) × (DeliveredFrom b (sizeIn (lent b sizes places work) S) (startIn combine (lent b sizes places work) j S) r ×
+        Stored work new next (λ (t : ℕ). getD r t 0) (reach (sitesAt b))) → Going combine q old new noted (S + 1) then (tried + (ones S - 1))
+    turn-on j joins new noted at then is note after (r, (from, stored)) =
         rw (note, is, after, f .laid .board .sites)
-        (going-on combine q (f .laid .valid) old work places S next tried g new (deliveredIn (startIn combine (lent b sizes places work) j S) b (sizeIn (lent b sizes places work) S)) subquery
+        (going-on combine q (f .laid .valid) old work places S next tried g new (λ (t : ℕ). getD r t 0) subquery
         (rw (f .laid .board .sites) at stored)
-        (λ t low. rw (joins-are j joins) (cells-are combine C q (lent b sizes places work) laid-now S subquery (g .cells) t (omega (arith, f .laid .valid .sites-most))))
-        (λ t. least-most _ _) (omega arith) (omega (arith, g .noted, set-few)))
+        (λ t low. cells-are combine C q (lent b sizes places work) laid-now S subquery (g .cells) r
+        (subst (λ (x : ℕ). DeliveredFrom b (sizeIn (lent b sizes places work) S) (startIn combine (lent b sizes places work) x S) r) (joins-are j joins) from) t low)
+        (λ t low. from .between .marked .most t (omega (arith, reach-eight (sitesOf q)))) (omega arith) (omega (arith, g .noted, set-few)))

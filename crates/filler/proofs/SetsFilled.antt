@@ -91,7 +91,7 @@ module _ (combine : ℕ → ℕ → ℕ) (q : Query) (v : Valid q) where
 
     -- A subquery, with its cells stored and the first of them noted.
     module _ (new : List ℕ) (f : ℕ → ℕ) (s : Subquery (q .joins) (relationsOf q) S) (stored : Stored work new next f (reach (sitesOf q)))
-        (is : (t : ℕ) → t < sitesOf q → f t ≡ mark (delivered combine q S t)) (few : (t : ℕ) → f t ≤ noneMark) where
+        (is : (t : ℕ) → t < sitesOf q → f t ≡ mark (delivered combine q S t)) (few : (t : ℕ) → t < reach (sitesOf q) → f t ≤ noneMark) where
       here : (t : ℕ) → next + t ≡ place q S t
       here t = omega (arith, g .next-is, place-after q S t)
 
@@ -106,7 +106,7 @@ module _ (combine : ℕ → ℕ → ℕ) (q : Query) (v : Valid q) where
           go (yes low) = rw (stored .kept .below (place q T t) low) (g .cells .most T t l p m)
           go (no high) =
               let at : place q T t ≡ next + (place q T t - next) = omega arith in
-              rw (at, stored .each (place q T t - next) (omega (arith, place-before q T S p l, place-after q T t, g .next-is))) (few (place q T t - next))
+              rw (at, stored .each (place q T t - next) (omega (arith, place-before q T S p l, place-after q T t, g .next-is))) (few (place q T t - next) (omega (arith, place-before q T S p l, place-after q T t, g .next-is)))
 
       pub going-on : S < all (relationsOf q) → S < length places → Going combine q old new (set places S next) (S + 1) (next + sitesOf q) (tried + (ones S - 1))
       going-on low long =
@@ -121,7 +121,7 @@ module _ (combine : ℕ → ℕ → ℕ) (q : Query) (v : Valid q) where
                   (λ p. ap (λ (i : ℕ). getD new i 0) (sym (here t)) ∙ stored .each t (omega (arith, reach-least (sitesOf q) (v .sites-most))) ∙ is t m)
                   (λ X l p. other X t l p m ∙ g .cells .each X t l p m) T h p;
               most = λ T t h p m. below-next (λ X. Subquery (q .joins) (relationsOf q) X → getD new (place q X t) 0 ≤ noneMark) S
-                  (λ p. rw (← here t, stored .each t m) (few t)) (λ X l p. behind X t l p m) T h p;
+                  (λ p. rw (← here t, stored .each t m) (few t m)) (λ X l p. behind X t l p m) T h p;
             };
             long = stored .kept .long ∙ g .long;
             later = same ∙ g .later;

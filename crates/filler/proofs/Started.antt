@@ -23,10 +23,10 @@ use Rattle.query.specs.declared.Query.{Query}
 use Rattle.query.specs.Choice.{pick}
 use Rattle.query.specs.Cost.{Cost, none, some, plus}
 use Rattle.query.specs.Query.{Valid, relationsOf, sitesOf, home}
-use Rattle.query.specs.Prices.{carriage}
-use Rattle.tables.specs.Least.{Best, better, best, least}
+use Rattle.routes.specs.Routes.{carriage}
+use Rattle.routes.specs.Least.{Best, better, best, least}
 use Rattle.tables.specs.Tables.{only, bySite, delivered, joined}
-use Rattle.tables.proofs.Least.{best-same}
+use Rattle.routes.proofs.Least.{best-same}
 use Rattle.tables.proofs.Tables.{ones-some, delivered-one, delivered-more}
 
 unfoldable pub startCost : (ℕ → ℕ → ℕ) → Query → ℕ → ℕ → Cost

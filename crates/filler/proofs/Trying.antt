@@ -1,4 +1,4 @@
--- What a price, a trial and a carriage come to, and that their sums keep far below a word's limit.
+-- What a price and a trial come to, and that their sums keep far below a word's limit.
 use Prim.Native.Nat.{ℕ, _+_, _-_, _*_, _≤_, _<_, zero-le}
 use native.Mathlib.Nat.{le-refl}
 use native.Mathlib.Omega.{arith}
@@ -14,7 +14,8 @@ use Rattle.query.specs.Prices.{lineCharge}
 use Rattle.board.specs.Figures.{noneMark}
 use Rattle.filler.specs.Cells.{placeIn}
 use Rattle.board.specs.Board.{lane, fixedAt, rateAt, lineFixedAt, lineRateAt, sitesAt}
-use Rattle.filler.specs.Trials.{Lent, priceIn, Priced, trialOf, Triable, bareAt, carriageIn, Carriable}
+use Rattle.filler.specs.Trials.{Lent, priceIn, Priced, trialOf, Triable, bareAt}
+use Rattle.sender.specs.Delivering.{lineIn, Carriable}
 
 -- The price of a join: its sizes as they are looked up.
 module _ (b sizes : List ℕ) (P R i k x y : ℕ) (p : Priced b sizes P R i k) (ex : x ≡ getD sizes P 0) (ey : y ≡ getD sizes R 0) where
@@ -36,15 +37,6 @@ module _ (l : Lent) (P R i k a b : ℕ) (ea : a ≡ placeIn (l .places) P k) (eb
   pub trial-is : (both price : ℕ) → both ≡ getD (l .work) a 0 + getD (l .work) b 0 → price ≡ priceIn (l .board) (l .sizes) P R i k → both + price ≡ trialOf _+_ l P R i k
   unfolding trialOf
   trial-is both price e f = rw (e, f, ea, eb)
-
--- A carriage.
-pub carriage-asks : (b : List ℕ) (size k t : ℕ) → Carriable b size → k < sitesAt b → t < 8 →
-    (lineFixedAt b k t ≤ noneMark) × ((lineRateAt b k t ≤ 1_000) × (size ≤ 1_000_000_000))
-carriage-asks b size k t p h g = (p .fixed-most k t h g, (p .rate-most k t h g, p .size-most))
-
-pub carriage-is : (b : List ℕ) (size k t r : ℕ) → r ≡ lineCharge (lineFixedAt b k t) (lineRateAt b k t) size → r ≡ carriageIn b size k t
-unfolding carriageIn
-carriage-is b size k t r e = e
 
 -- The row of one relation.
 pub stands-is : (homes k b : ℕ) → b ≡ bit homes k → b ≡ 1 → 0 ≡ bareAt homes k

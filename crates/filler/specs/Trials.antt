@@ -1,5 +1,5 @@
--- What a trial is: two parts of a subquery, each delivered at a site, and the price of their join there. And the rows of figures that the loops
--- work out from trials and lines. `proofs/` shows that those figures are the two tables'.
+-- What a trial is: two parts of a subquery, each delivered at a site, and the price of their join there. And the row of figures that the loops
+-- work out from trials, which a subquery starts from. `proofs/` shows that those figures are the two tables'.
 use Prim.Native.Nat.{ℕ, _+_, _-_, _≤_, _<_}
 use mathlib.Core.Path.{_≡_}
 use mathlib.Core.List.{List}
@@ -7,16 +7,16 @@ use lib.Count.{ones, trailingZeros}
 use lib.Dec.{eqb}
 use lib.ListN.{length, getD}
 use Rattle.relations.specs.declared.splitting.Parts.{Parts}
-use Rattle.relations.specs.Code.{mostSets, Listed}
+use Rattle.relations.specs.Code.{mostSets}
 use Rattle.relations.specs.Sets.{bit}
 use Rattle.relations.specs.Splits.{partsBy}
 use Rattle.query.specs.Choice.{pick}
 use Rattle.query.specs.Query.{UpTo}
-use Rattle.query.specs.Prices.{lineCharge, joinCharge}
-use Rattle.board.specs.Figures.{noneMark, lesser, leastOf, placeOf, Marked}
-use Rattle.board.specs.Laying.{Kept}
+use Rattle.query.specs.Prices.{joinCharge}
+use Rattle.board.specs.Figures.{noneMark, leastOf}
 use Rattle.filler.specs.Cells.{placeIn, reach}
-use Rattle.board.specs.Board.{lane, sideAt, fixedAt, rateAt, sparedRow, lineFixedAt, lineRateAt, homesAt, sitesAt}
+use Rattle.board.specs.Board.{lane, sideAt, fixedAt, rateAt, sparedRow, homesAt, sitesAt}
+use Rattle.sender.specs.Delivering.{Carriable}
 
 -- What the loops are lent: the board, the sizes, the places of the subqueries' first cells, and the work area.
 pub record Lent : Type 0 where
@@ -71,20 +71,6 @@ trialBy combine l p e k = trialOf combine l (p .first) (p .second) (sparedRow (p
 abbrev pub TriableBy : Lent → Parts → (e k : ℕ) → Type 0
 TriableBy l p e k = Triable l (p .first) (p .second) (sparedRow (p .first) (p .second) e) k
 
--- A row whose first s lanes, one for each site, are g 0, g 1, ..
-abbrev pub AtSites : (s : ℕ) → List ℕ → (ℕ → ℕ) → Type 0
-AtSites s row g = Listed row g 8 s
-
--- The row with the figure g k at each site k where it is less.
-abbrev pub TriedAt : (s : ℕ) → (old new : List ℕ) → (ℕ → ℕ) → Type 0
-TriedAt s old new g = AtSites s new (λ (k : ℕ). lesser (g k) (getD old k 0))
-
--- The same at the m sites from one on; every other lane is as it was.
-pub record TriedFrom (old new : List ℕ) (g : ℕ → ℕ) (site m : ℕ) : Type 0 where
-  pub kept : Kept old new site (site + m)
-  pub each : (i : ℕ) → i < m → getD new (site + i) 0 ≡ lesser (g (site + i)) (getD old (site + i) 0)
-  pub marked : Marked new
-
 -- The figure of join e of S at site k, the joins in S given as bits: none where e is not among them.
 unfoldable pub joinTrial : (ℕ → ℕ → ℕ) → Lent → (joins S k e : ℕ) → ℕ
 joinTrial combine l joins S k e = pick (eqb (bit joins e) 1) (trialBy combine l (partsAt l S e) e k) noneMark
@@ -108,30 +94,9 @@ bareAt homes k = pick (eqb (bit homes k) 1) 0 noneMark
 unfoldable pub startIn : (ℕ → ℕ → ℕ) → Lent → (joins S k : ℕ) → ℕ
 startIn combine l joins S k = pick (eqb joins 0) (bareAt (homesAt (l .board) (trailingZeros 64 S)) k) (joinedIn combine l joins S k)
 
--- The carriage of a size from site k to site t.
-unfoldable pub carriageIn : List ℕ → (size k t : ℕ) → ℕ
-carriageIn b size k t = lineCharge (lineFixedAt b k t) (lineRateAt b k t) size
-
--- What carriages ask.
-pub record Carriable (b : List ℕ) (size : ℕ) : Type 0 where
-  pub few : sitesAt b ≤ 8
-  pub fixed-most : (k t : ℕ) → k < sitesAt b → t < 8 → lineFixedAt b k t ≤ noneMark
-  pub rate-most : (k t : ℕ) → k < sitesAt b → t < 8 → lineRateAt b k t ≤ 1_000
-  pub size-most : size ≤ 1_000_000_000
-
 -- What a subquery's start asks: it has one relation where it has no join, its joins can be tried, and its figures sent.
 pub record Startable (l : Lent) (joins S : ℕ) : Type 0 where
   pub set-in : S < mostSets
   pub alone : joins ≡ 0 → ones S ≡ 1
   pub joinable : Joinable l joins S
   pub carriable : Carriable (l .board) (sizeIn l S)
-
--- The figure at t by way of site k, from what has been spent at each site; the least of these, and the lowest site of it.
-unfoldable pub siteTrial : (ℕ → ℕ) → List ℕ → (size t k : ℕ) → ℕ
-siteTrial row b size t k = row k + carriageIn b size k t
-
-abbrev pub deliveredIn : (ℕ → ℕ) → List ℕ → (size t : ℕ) → ℕ
-deliveredIn row b size t = leastOf (siteTrial row b size t) (sitesAt b)
-
-abbrev pub siteIn : (ℕ → ℕ) → List ℕ → (size t : ℕ) → ℕ
-siteIn row b size t = placeOf (siteTrial row b size t) (sitesAt b)

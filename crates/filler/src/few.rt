@@ -12,7 +12,8 @@ ghost use Prim.Native.Nat.{ℕ, _+_, _≤_, _<_};
 ghost use Rattle.board.specs.Board.{sitesAt};
 ghost use Rattle.board.specs.Figures.{Marked};
 ghost use Rattle.filler.specs.Cells.{reach};
-ghost use Rattle.filler.specs.Trials.{lent, AtSites, Triable, trialOf, TriedAt, Joinable, joinedIn};
+ghost use Rattle.filler.specs.Trials.{lent, Triable, trialOf, Joinable, joinedIn};
+ghost use Rattle.sender.specs.Rows.{AtSites, TriedAt};
 
 // The row with the trials of one split where they are less.
 fn try_few<'a>(

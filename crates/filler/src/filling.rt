@@ -7,15 +7,21 @@ use board::joins_of;
 use board::sites_of;
 use relations::SETS;
 use relations::whole;
+use sender::is_direct;
 use subqueries::is_connected;
 use subqueries::joins_in;
-ghost use Prim.Native.Nat.{_+_, _≤_};
-ghost use lib.ListN.{length};
+ghost use Prim.Native.Nat.{ℕ, _+_, _≤_};
+ghost use mathlib.Core.List.{List};
+ghost use mathlib.Core.Path.{_≡_};
+ghost use mathlib.Core.Bool.{true};
+ghost use lib.ListN.{length, getD};
 ghost use Rattle.query.specs.declared.Query.{Query};
 ghost use Rattle.tables.specs.Work.{mostCells};
 ghost use Rattle.board.specs.Board.{sitesAt};
 ghost use Rattle.filler.specs.Cells.{reach, Stored};
-ghost use Rattle.filler.specs.Trials.{lent, sizeIn, Startable, startIn, deliveredIn};
+ghost use Rattle.sender.specs.Detours.{Direct};
+ghost use Rattle.filler.specs.Trials.{lent, sizeIn, Startable, startIn};
+ghost use Rattle.sender.specs.Delivering.{DeliveredFrom};
 ghost use Rattle.filler.specs.Filling.{Fillable, FilledFrom};
 
 // Fills the cells of one subquery from a place on, its joins given as bits: none for one relation.
@@ -27,17 +33,17 @@ fn fill_set<'a>(
     set: usize,
     joins: usize,
     at: usize,
+    direct: bool,
 )
-    requires { ⌜ Startable (lent (now board) (now sizes) (now places) (now work)) joins set × ((at ≤ mostCells) × (at + reach (sitesAt (now board)) ≤ length (now work))) ⌝ }
+    requires { ⌜ (Startable (lent (now board) (now sizes) (now places) (now work)) joins set × (direct ≡ true → Direct (now board) (sitesAt (now board)))) × ((at ≤ mostCells) × (at + reach (sitesAt (now board)) ≤ length (now work))) ⌝ }
     ensures { λ _.
-        ⌜ Stored (now (work .entry)) (now (work .exit)) at
-        (deliveredIn (startIn _+_ (lent (now (board .entry)) (now (sizes .entry)) (now (places .entry)) (now (work .entry))) joins set) (now (board .entry))
-        (sizeIn (lent (now (board .entry)) (now (sizes .entry)) (now (places .entry)) (now (work .entry))) set))
-        (reach (sitesAt (now (board .entry)))) ⌝ }
+        ⌜ ((r : List ℕ) × (DeliveredFrom (now (board .entry)) (sizeIn (lent (now (board .entry)) (now (sizes .entry)) (now (places .entry)) (now (work .entry))) set)
+        (startIn _+_ (lent (now (board .entry)) (now (sizes .entry)) (now (places .entry)) (now (work .entry))) joins set) r ×
+        Stored (now (work .entry)) (now (work .exit)) at (λ (t : ℕ). getD r t 0) (reach (sitesAt (now (board .entry)))))) ⌝ }
 {
     let row = start_row(board, sizes, places, &*work, set, joins);
     let size = size_of(sizes, set);
-    deliver(&mut *work, board, &row, size, at);
+    deliver(&mut *work, board, row, size, at, direct);
 }
 
 // Fills the cells of every subquery but the whole query, notes where the first of each stands, and counts the joins in all of them.
@@ -55,6 +61,7 @@ pub fn fill<'a>(
 {
     let sites = sites_of(board);
     let end = whole(joins_of(board) + 1);
+    let direct = is_direct(board);
     let mut tried = 0;
     let mut next = 0;
     let mut set = 1;
@@ -69,6 +76,7 @@ pub fn fill<'a>(
                 set,
                 joins_in(entry),
                 next,
+                direct,
             );
             places[set] = next as u32;
             next += sites;

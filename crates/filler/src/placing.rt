@@ -7,7 +7,7 @@ ghost use Rattle.relations.specs.Code.{mostSets};
 ghost use Rattle.filler.specs.Cells.{placeIn, lanesOf};
 
 // The place of a subquery's cell at a site, by the places of the first cells.
-pub(crate) fn place(places: &[u32; SETS], set: usize, site: usize) -> usize
+pub fn place(places: &[u32; SETS], set: usize, site: usize) -> usize
     requires { ⌜ (set < mostSets) × (site < 8) ⌝ }
     ensures { λ r. ⌜ r ≡ placeIn (now (places .entry)) set site ⌝ }
 {

@@ -12,7 +12,8 @@ ghost use mathlib.Core.Path.{_≡_};
 ghost use Rattle.relations.specs.Sets.{bit};
 ghost use Rattle.board.specs.Board.{sitesAt};
 ghost use Rattle.board.specs.Figures.{Lanes, Marked};
-ghost use Rattle.filler.specs.Trials.{lent, AtSites, Joinable, Startable, joinedIn, bareAt, startIn};
+ghost use Rattle.filler.specs.Trials.{lent, Joinable, Startable, joinedIn, bareAt, startIn};
+ghost use Rattle.sender.specs.Rows.{AtSites};
 
 // Nothing where the relation stands, none elsewhere.
 fn stands(homes: usize, k: usize) -> u64

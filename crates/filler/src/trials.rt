@@ -17,7 +17,8 @@ ghost use mathlib.Core.Path.{_≡_};
 ghost use lib.ListN.{getD};
 ghost use Rattle.relations.specs.Code.{mostSets};
 ghost use Rattle.board.specs.Figures.{noneMark, Marked};
-ghost use Rattle.filler.specs.Trials.{lent, Priced, priceIn, Triable, trialOf, TriedFrom};
+ghost use Rattle.filler.specs.Trials.{lent, Priced, priceIn, Triable, trialOf};
+ghost use Rattle.sender.specs.Rows.{TriedFrom};
 
 // The size of a set.
 pub fn size_of(sizes: &[u32; SETS], set: usize) -> Bytes

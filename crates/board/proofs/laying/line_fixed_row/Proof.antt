@@ -1,4 +1,4 @@
--- Each turn settles one receiver more; the sender's own lane is cleared at the end.
+-- Each turn settles one receiver more; the sender's own lane gets none at the end.
 use Prim.Native.Nat.{_+_, _-_, _*_, _≤_}
 use mathlib.Core.Path.{refl}
 use borrow.Author.Needs.{needs}
@@ -38,4 +38,4 @@ line-fixed-row-spec =
     (λ c. (search needs, search (needs, listed-next)))
     (λ c. search needs)
     (λ c. search needs)
-    (λ c. lanes-but _ _ _ (listed-done _ _ _ _ _ (c .before .loop .inv .1) (search needs)) (search needs)))
+    (λ c. lanes-but _ _ _ _ (listed-done _ _ _ _ _ (c .before .loop .inv .1) (search needs)) (search needs)))

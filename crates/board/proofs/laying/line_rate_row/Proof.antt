@@ -34,4 +34,4 @@ line-rate-row-spec =
     (λ c. (search needs, search (needs, listed-next)))
     (λ c. search needs)
     (λ c. search needs)
-    (λ c. lanes-but _ _ _ (listed-done _ _ _ _ _ (c .before .loop .inv .1) (search needs)) (search needs)))
+    (λ c. lanes-but _ _ _ _ (listed-done _ _ _ _ _ (c .before .loop .inv .1) (search needs)) (search needs)))

@@ -5,7 +5,7 @@ use borrow.Author.Needs.{needs}
 use Rattle.board.specs.Board.{sitesAt}
 use Rattle.filler.specs.Cells.{reach}
 use Rattle.filler.proofs.Places.{pair-within, lanes-few}
-use Rattle.filler.proofs.Turns.{tried-both, tried-done}
+use Rattle.sender.proofs.Rows.{tried-both, tried-done}
 use Rattle.filler.proofs.few.try_few.Statement.{statement}
 use Rattle.filler.proofs.few.try_few.Tie as tie
 

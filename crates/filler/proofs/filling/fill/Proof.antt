@@ -16,7 +16,7 @@ use Rattle.board.specs.Board.{joinsAt}
 use Rattle.filler.specs.Trials.{lent}
 use Rattle.filler.specs.Filling.{Fillable}
 use Rattle.filler.proofs.SetsFilled.{Going, going-start, going-done}
-use Rattle.filler.proofs.SetTurns.{joins-few, end-is, end-low, next-few, sites-few, tried-few, turn-skip, turn-startable, turn-roomy, turn-on, relations-some, ones-few}
+use Rattle.filler.proofs.SetTurns.{joins-few, lines-here, end-is, end-low, next-few, sites-few, tried-few, turn-skip, turn-startable, turn-roomy, turn-on, relations-some, ones-few}
 use Rattle.filler.proofs.filling.fill.Statement.{statement}
 use Rattle.filler.proofs.filling.fill.Tie as tie
 
@@ -26,11 +26,11 @@ Reached board sizes table before old end places work tried next set =
     (q : Query) → Fillable q (lent board sizes before old) table → (end ≡ all (relationsOf q)) × Going _+_ q old work places set next tried
 
 abbrev Inv-loop : tie.InvT-loop
-Inv-loop board sizes table places₀ work₀ sites end tried₀ next₀ set₀ places work tried next set =
+Inv-loop board sizes table places₀ work₀ sites end direct tried₀ next₀ set₀ places work tried next set =
     (set ≤ end) × ((0 < set) × ((end < mostSets) × Reached board sizes table places₀ work₀ end places work tried next set))
 
 abbrev μ-loop : tie.MeasureT-loop
-μ-loop board sizes table places₀ work₀ sites end tried₀ next₀ set₀ places work tried next set = end - set
+μ-loop board sizes table places₀ work₀ sites end direct tried₀ next₀ set₀ places work tried next set = end - set
 
 abbrev Start : Type 0
 Start = tie.Start Inv-loop μ-loop
@@ -43,7 +43,7 @@ abbrev Turn : Type 0
 Turn = tie.In-loop Inv-loop μ-loop
 
 abbrev start : Turn → Start
-start t = t .before .before .before .before .before .before
+start t = t .before .before .before .before .before .before .before
 
 abbrev Tested : Type 0
 Tested = tie.After-is-connected Inv-loop μ-loop
@@ -55,15 +55,15 @@ turn c = c .before .before
 ended : (c : tie.After-whole Inv-loop μ-loop) → c .whole .result ≡ all (joinsAt (c .before .before .before .before .args .board .now) + 1)
 ended c = c .whole .ensures ∙ ap (λ (m : ℕ). all (m + 1)) (c .before .joins-of .ensures)
 
-low : (t : Turn) → t .before .loop .set < t .before .before .whole .result
+low : (t : Turn) → t .before .loop .set < t .before .before .before .whole .result
 low t = omega (arith, t .loop-test .taken)
 
 -- What has been reached at a turn, for the query that the caller has.
 abbrev sites : Turn → tie.After-sites-of Inv-loop μ-loop
-sites t = t .before .before .before .before
+sites t = t .before .before .before .before .before
 
 reached : (t : Turn) → Reached (start t .args .board .now) (start t .args .sizes .now) (start t .args .table .now) (start t .args .places .now) (start t .args .work .now)
-    (t .before .before .whole .result) (t .before .loop .places) (t .before .loop .work) (t .before .loop .tried) (t .before .loop .next) (t .before .loop .set)
+    (t .before .before .before .whole .result) (t .before .loop .places) (t .before .loop .work) (t .before .loop .tried) (t .before .loop .next) (t .before .loop .set)
 reached t = t .before .loop .inv .1 .1 .1
 
 -- A turn whose set was a subquery, filled from its joins.
@@ -116,9 +116,10 @@ fill-spec =
     (λ c κs. search needs)
     (λ c. omega (arith, c .joins-of .ensures, few (c .before .before .before)))
     (λ c κs. omega (arith, c .joins-of .ensures, few (c .before .before .before)))
-    (λ c. let s = c .before .before .before .before in
-    let e = end-low (s .pre .0) _ _ (s .pre .1) _ (end-is (s .pre .0) _ _ (s .pre .1) _ (ended c)) in
-    (e .0, (omega arith, (e .1, λ q f. (end-is q _ _ f _ (ended c), going-start _+_ q (f .laid .valid) _ _ (f .room) (f .places-long))))))
+    (λ c κs. let p = c .before .before .before .before .pre in lines-here (p .0) _ _ (p .1))
+    (λ c. let w = c .before in let s = w .before .before .before .before in
+    let e = end-low (s .pre .0) _ _ (s .pre .1) _ (end-is (s .pre .0) _ _ (s .pre .1) _ (ended w)) in
+    (e .0, (omega arith, (e .1, λ q f. (end-is q _ _ f _ (ended w), going-start _+_ q (f .laid .valid) _ _ (f .room) (f .places-long))))))
     (λ c. search needs)
     (λ c. search needs)
     (λ c κs. search needs)
@@ -128,7 +129,7 @@ fill-spec =
     let p = start t .pre in
     let h = reached t (p .0) (p .1) in
     let test = i .is-connected .ensures in (
-      turn-startable _+_ plus-combines _ _ _ _ _ _ _ _ _ _ _ (p .0) (p .1) (h .1) (low t) (h .0) _ test (held c .if1 .taken) _ (c .joins-in .ensures),
+      (turn-startable _+_ plus-combines _ _ _ _ _ _ _ _ _ _ _ (p .0) (p .1) (h .1) (low t) (h .0) _ test (held c .if1 .taken) _ (c .joins-in .ensures), t .before .before .is-direct .ensures),
       (
         next-few _+_ plus-combines _ _ _ _ _ _ _ _ _ _ _ (p .0) (p .1) (h .1) (low t) (h .0) _ test,
         turn-roomy _+_ plus-combines _ _ _ _ _ _ _ _ _ _ _ (p .0) (p .1) (h .1) (low t) (h .0) _ test (held c .if1 .taken),
@@ -175,6 +176,6 @@ fill-spec =
         ),
       ),
     ))
-    (λ c. let l = c .before .loop in let p = c .before .before .before .before .before .before .pre in l .inv .1 .1 .1 (p .0) (p .1) .1 .long)
+    (λ c. let l = c .before .loop in let p = c .before .before .before .before .before .before .before .pre in l .inv .1 .1 .1 (p .0) (p .1) .1 .long)
     (λ c. let l = c .before .loop in
     λ q f. let h = l .inv .1 .1 .1 q f in going-done _+_ q _ _ _ _ _ _ _ (h .1) (le-antisymm (l .inv .0) (c .loop-test .left)) (h .0)))

@@ -10,8 +10,8 @@ fill-set-spec =
     (tie.spec
     (λ c κs. search needs)
     (λ c κs. search needs)
-    (λ c κs. let z = c .before .before in let s = z .before .before .before .before in
-    ((z .before .start-row .ensures .1, sized _ _ _ (z .size-of .ensures) (s .pre .0 .carriable)), s .pre .1))
+    (λ c κs. let z = c .before in let s = z .before .before .before .before in
+    ((z .before .start-row .ensures .1, (sized _ _ _ (z .size-of .ensures) (s .pre .0 .0 .carriable), s .pre .0 .1)), s .pre .1))
     (λ c. search needs)
-    (λ c. let z = c .before .before .before .before .before in
+    (λ c. let z = c .before .before .before .before in
     stored-start _ _ _ _ _ _ _ _ _ _ (z .before .start-row .ensures .0) (z .size-of .ensures) (c .before .before .deliver .ensures)))

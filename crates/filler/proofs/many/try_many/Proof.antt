@@ -1,7 +1,7 @@
 -- `many::try_many` meets its contract: the four pairs are tried, the one behind the other. Assumes nothing.
 use native.Mathlib.Omega.{arith}
 use Rattle.filler.proofs.Places.{reach-many}
-use Rattle.filler.proofs.Turns.{tried-both, tried-done}
+use Rattle.sender.proofs.Rows.{tried-both, tried-done}
 use Rattle.filler.proofs.many.try_many.Statement.{statement}
 use Rattle.filler.proofs.many.try_many.Tie as tie
 

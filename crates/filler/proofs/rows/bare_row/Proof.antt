@@ -4,7 +4,7 @@ use borrow.Author.Needs.{needs}
 use Rattle.relations.specs.Code.{Listed}
 use Rattle.relations.proofs.Listed.{listed-none, listed-next, listed-done}
 use Rattle.filler.specs.Trials.{bareAt}
-use Rattle.filler.proofs.Turns.{lanes-marked}
+use Rattle.sender.proofs.Rows.{lanes-marked}
 use Rattle.filler.proofs.Trying.{bare-most}
 use Rattle.filler.proofs.rows.bare_row.Statement.{statement}
 use Rattle.filler.proofs.rows.bare_row.Tie as tie

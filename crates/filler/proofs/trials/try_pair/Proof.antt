@@ -4,8 +4,9 @@ use native.Mathlib.Nat.{le-antisymm}
 use native.Mathlib.Omega.{arith}
 use mathlib.Core.Path.{refl, subst}
 use borrow.Author.Needs.{needs}
-use Rattle.filler.specs.Trials.{lent, trialOf, TriedFrom}
-use Rattle.filler.proofs.Turns.{tried-none, tried-more}
+use Rattle.filler.specs.Trials.{lent, trialOf}
+use Rattle.sender.specs.Rows.{TriedFrom}
+use Rattle.sender.proofs.Rows.{tried-none, tried-more}
 use Rattle.filler.proofs.trials.try_pair.Statement.{statement}
 use Rattle.filler.proofs.trials.try_pair.Tie as tie
 

@@ -1,15 +1,16 @@
--- `delivering::send_from` meets its contract: each turn tries one site more. Assumes nothing.
+-- `lines::send_from` meets its contract: each turn tries one site more. Assumes nothing.
 use Prim.Native.Nat.{ℕ, _+_, _-_}
 use native.Mathlib.Omega.{arith}
 use mathlib.Core.Path.{ap}
 use borrow.Author.Needs.{needs}
-use Rattle.filler.specs.Trials.{carriageIn, TriedFrom}
-use Rattle.filler.proofs.Turns.{tried-none, tried-more, tried-done}
-use Rattle.filler.proofs.delivering.send_from.Statement.{statement}
-use Rattle.filler.proofs.delivering.send_from.Tie as tie
+use Rattle.sender.specs.Delivering.{lineIn}
+use Rattle.sender.specs.Rows.{TriedFrom}
+use Rattle.sender.proofs.Rows.{tried-none, tried-more, tried-done}
+use Rattle.sender.proofs.lines.send_from.Statement.{statement}
+use Rattle.sender.proofs.lines.send_from.Tie as tie
 
 abbrev Inv-loop : tie.InvT-loop
-Inv-loop best₀ board figure size k t₀ best t = TriedFrom best₀ best (λ (i : ℕ). figure + carriageIn board (size .0) k i) 0 t
+Inv-loop best₀ board figure size k t₀ best t = TriedFrom best₀ best (λ (i : ℕ). figure + lineIn board (size .0) k i) 0 t
 
 abbrev μ-loop : tie.MeasureT-loop
 μ-loop best₀ board figure size k t₀ best t = 8 - t
@@ -26,12 +27,12 @@ send-from-spec =
     (λ c. search needs)
     (λ c. search needs)
     (λ c κs. let i = c .before .before .before .before in
-    (omega (arith, c .before .before .carriage .ensures .1), i .loop .inv .marked .most (i .loop .t) (search needs)))
+    (omega (arith, c .before .before .line-at .ensures .1), i .loop .inv .marked .most (i .loop .t) (search needs)))
     (λ c. search needs)
     (λ c. search needs)
     (λ c. search needs)
     (λ c. search needs)
     (λ c. let u = c .before .before .before in let i = u .before in
     tried-more _ _ _ _ _ _ _ _ (i .before .loop .inv) (omega arith) (i .loop-test .taken)
-    (ap (λ (x : ℕ). i .before .before .args .figure + x) (u .carriage .ensures .0)) (c .lesser .ensures .0) (c .lesser .ensures .1))
+    (ap (λ (x : ℕ). i .before .before .args .figure + x) (u .line-at .ensures .0)) (c .lesser .ensures .0) (c .lesser .ensures .1))
     (λ c. tried-done _ _ _ _ 8 (c .before .loop .inv) (c .loop-test .left)))

@@ -1,0 +1,3 @@
+pub mod Rows
+pub mod Delivering
+pub mod Detours
