@@ -1,6 +1,6 @@
 -- The writer's choices: each turn of their loops weighs one site or one join more, a choice among the figures of a row is one among what the row was
 -- worked out from, and a query whose cells are filled gives all that the choices ask.
-use Prim.Native.Nat.{ℕ, zero, suc, _+_, _-_, _^_, _≤_, _<_}
+use Prim.Native.Nat.{ℕ, zero, suc, _+_, _-_, _*_, _^_, _≤_, _<_}
 use native.Mathlib.Nat.{le-refl, le-antisymm, pow-suc}
 use native.Mathlib.Numerals.{add-one}
 use native.Mathlib.Omega.{arith}
@@ -8,6 +8,7 @@ use mathlib.Core.Path.{_≡_, refl, sym, ap, subst, _∙_}
 use mathlib.Core.Bool.{Bool, true, false}
 use mathlib.Core.List.{List}
 use lib.Bits.{bitAnd, and-le-l}
+use lib.Count.{ones}
 use lib.Dec.{eqb}
 use lib.ListN.{getD}
 use lib.Pow.{pow-mono, pow-lt}
@@ -22,18 +23,25 @@ use Rattle.relations.proofs.Connected.{subquery-range}
 use Rattle.relations.proofs.Loops.{below-sets}
 use Rattle.query.specs.declared.Query.{Query}
 use Rattle.query.specs.Choice.{pick}
+use Rattle.query.specs.Cost.{some}
 use Rattle.query.specs.Query.{relationsOf, sitesOf}
-use Rattle.query.specs.Prices.{dearestLine}
 use Rattle.rules.specs.Combine.{Combines}
 use Rattle.tables.specs.Tables.{delivered}
 use Rattle.board.specs.declared.figures.Choice.{Choice}
-use Rattle.board.specs.Figures.{noneMark, mark, ChoiceOf, betterOf, Marked}
+use Rattle.board.specs.Figures.{noneMark, mark, leastOf, ChoiceOf, betterOf}
 use Rattle.board.specs.Board.{endsAt, sideAt, sparedRow, joinsAt, sitesAt}
-use Rattle.filler.specs.Trials.{Lent, sizeIn, trialOf, Triable, AtSites, joinTrial, Joinable, joinedIn, Startable, startIn, carriageIn, Carriable, siteTrial, siteIn}
+use Rattle.filler.specs.Trials.{Lent, sizeIn, trialOf, Triable, joinTrial, Joinable, joinedIn, Startable, startIn}
+use Rattle.sender.specs.Rows.{AtSites}
+use Rattle.sender.specs.Delivering.{Carriable, DeliveredFrom}
 use Rattle.filler.specs.Filling.{Filled}
+use Rattle.router.specs.Routing.{bySendsIn, carriageIn, RoutesTo, siteTrial, siteIn}
 use Rattle.solver.specs.Writing.{joinsWithin, siteBy, joinBy, Known}
+use Rattle.solver.proofs.Routed.{sites-kept}
 use Rattle.board.proofs.LeastFigures.{choice-more, choice-same, place-same}
+use Rattle.router.proofs.Weighed.{choice-done}
 use Rattle.filler.proofs.Places.{reach-least}
+use Rattle.tables.proofs.Most.{delivered-most}
+use Rattle.filler.proofs.CellsStored.{delivered-same, start-joined}
 use Rattle.filler.proofs.Started.{startCost, delivered-started}
 use Rattle.filler.proofs.Columns as columns
 use Rattle.solver.proofs.Chosen.{within-is}
@@ -68,20 +76,6 @@ module _ (b : List ℕ) (S m found : ℕ) (is : found ≡ joinsWithin b S m) whe
 pub within-none : (b : List ℕ) (S : ℕ) → 0 ≡ joinsWithin b S 0
 unfolding joinsWithin
 within-none b S = refl
-
--- The last turn.
-pub choice-done : (g : ℕ → ℕ) (k s m : ℕ) (c : Choice) → ChoiceOf g k c → k ≤ s → s ≤ k → s ≡ m → ChoiceOf g m c
-choice-done g k s m c h le ge is = subst (λ (n : ℕ). ChoiceOf g n c) (le-antisymm le ge ∙ is) h
-
--- The sites, one after the other.
-pub site-more : (row : ℕ → ℕ) (b : List ℕ) (size t k x r : ℕ) (kept made : Choice) → ChoiceOf (siteTrial row b size t) k kept → x ≡ row k →
-    r ≡ carriageIn b size k t → made ≡ betterOf (x + r) k kept → ChoiceOf (siteTrial row b size t) (k + 1) made
-unfolding siteTrial
-site-more row b size t k x r kept made c x-is r-is made-is = choice-more _ k (x + r) kept made c (rw (x-is, r-is)) made-is
-
-pub site-fits : (row b : List ℕ) (size k s x : ℕ) → Marked row → Carriable b size → k < s → s ≡ sitesAt b → x ≤ noneMark + dearestLine →
-    Fits w64 (getD row k 0 + x)
-site-fits row b size k s x marked lines h is most = record { fits = omega (arith, marked .most k (omega (arith, lines .few)), most) }
 
 -- The joins in S, as the writer works them out.
 abbrev within : Lent → ℕ → ℕ
@@ -146,18 +140,36 @@ module _ (combine : ℕ → ℕ → ℕ) (C : Combines combine) (q : Query) (l :
   joinable joins is = startable joins is .joinable
 
   -- The least figure from the row that S starts from is Delivered.
-  pub figure-is : (row : List ℕ) (joins x t : ℕ) (c : Choice) → joins ≡ within l S → AtSites (sitesAt (l .board)) row (startIn combine l joins S) → x ≡ sizeIn l S → t < 8 →
+  pub figure-is : (row : List ℕ) (joins x t : ℕ) (c : Choice) → joins ≡ within l S → AtSites (sitesAt (l .board)) row (startIn combine l joins S) → x ≡ sizeIn l S → t < sitesOf q →
       ChoiceOf (siteTrial (λ (i : ℕ). getD row i 0) (l .board) x t) (sitesAt (l .board)) c → c .figure ≡ mark (delivered combine q S t)
   figure-is row joins x t c joins-are lanes x-is site chosen =
       chosen .figure-is
       ∙ rw (x-is, k .laid .board .sites)
-      (columns.sites-kept combine C q l (k .laid) S (k .subquery) (λ (i : ℕ). getD row i 0) start t site .figure-is)
+      (sites-kept combine C q l (k .laid) S (k .subquery) (λ (i : ℕ). getD row i 0) start t .figure-is)
       ∙ ap mark (sym (delivered-started combine q (k .laid .valid) S t (k .subquery)))
     where
       start : (i : ℕ) → i < sitesOf q → getD row i 0 ≡ mark (startCost combine q S i)
       start i h =
           lanes .each i (omega (arith, k .laid .board .sites))
           ∙ rw (joins-are, within-is combine C q l (k .laid) S (k .subquery)) (columns.start-is combine C q l (k .laid) S (k .subquery) filled-here i h)
+
+  -- So it is the least figure from the row of its joins, where it has two relations or more, and it is the cell from the row that S starts from.
+  pub site-figure : (row : List ℕ) (joins x t c : ℕ) → joins ≡ within l S → AtSites (sitesAt (l .board)) row (joinedIn combine l joins S) → x ≡ sizeIn l S → t < sitesOf q →
+      (ones S ≡ 1 → ⊥) → delivered combine q S t ≡ some c → (c ≡ leastOf (siteTrial (λ (i : ℕ). getD row i 0) (l .board) x t) (sitesAt (l .board))) × (c < noneMark)
+  site-figure row joins x t c joins-are lanes x-is site more e = (
+    sym
+        (figure-is row joins x t (record { figure = _; at = _ }) joins-are
+        (start-joined combine l joins S row (sitesAt (l .board)) (λ none. more (startable joins joins-are .alone none)) lanes) x-is site (record { figure-is = refl; at-is = refl })
+        ∙ ap mark e),
+    omega (arith, delivered-most combine C q (k .laid .valid) S t c (k .subquery) e),
+  )
+
+  pub cell-figure : (row : List ℕ) (joins x t : ℕ) (new : List ℕ) → joins ≡ within l S → AtSites (sitesAt (l .board)) row (startIn combine l joins S) → x ≡ sizeIn l S → t < sitesOf q →
+      DeliveredFrom (l .board) x (λ (i : ℕ). getD row i 0) new → getD new t 0 ≡ mark (delivered combine q S t)
+  cell-figure row joins x t new joins-are lanes x-is site from =
+      columns.cells-are combine C q l (k .laid) S (k .subquery) filled-here new
+      (subst (λ (j : ℕ). DeliveredFrom (l .board) (sizeIn l S) (startIn combine l j S) new) (joins-are ∙ within-is combine C q l (k .laid) S (k .subquery))
+      (delivered-same (l .board) x (sizeIn l S) (λ (i : ℕ). getD row i 0) (startIn combine l joins S) new (lanes .each) x-is from)) t site
 
   pub triable : (joins e d side i row : ℕ) (p : Parts) → joins ≡ within l S → e < 8 → i < sitesOf q → d ≡ bit joins e → d ≡ 1 → side ≡ sideAt (l .board) e →
       p ≡ partsBy S side → row ≡ sparedRow (p .first) (p .second) e → Triable l (p .first) (p .second) row i

@@ -15,15 +15,15 @@ use Rattle.query.specs.declared.Query.{Query}
 use Rattle.query.specs.Choice.{pick}
 use Rattle.query.specs.Query.{relationsOf, sitesOf, mayJoin}
 use Rattle.rules.specs.Combine.{Combines}
-use Rattle.tables.specs.Least.{Best}
+use Rattle.routes.specs.Least.{Best}
 use Rattle.tables.specs.Written.{bestSite, bestJoin}
 use Rattle.board.specs.Board.{joinsAt}
 use Rattle.filler.specs.Trials.{Lent, joinedIn}
 use Rattle.filler.specs.Filling.{LaidOut, Filled}
 use Rattle.filler.proofs.Started.{startCost, started-same}
 use Rattle.filler.proofs.JoinTrials.{joins-kept, joined-is}
-use Rattle.filler.proofs.Columns.{sites-kept}
 use Rattle.solver.specs.Writing.{joinsWithin, siteBy, joinBy}
+use Rattle.solver.proofs.Routed.{sites-kept}
 
 module _ (combine : ℕ → ℕ → ℕ) (C : Combines combine) (q : Query) (l : Lent) (laid : LaidOut q l) (S : ℕ) (s : Subquery (q .joins) (relationsOf q) S) where
   within-first : (m : ℕ) → m ≤ q .joins .count → joinsWithin (l .board) S m ≡ joinBits (q .joins) S m
@@ -46,7 +46,7 @@ module _ (combine : ℕ → ℕ → ℕ) (C : Combines combine) (q : Query) (l :
     unfolding bestSite startCost
     site-is t low more =
         rw (within-is, laid .board .sites)
-        (sites-kept combine C q l laid S s (joinedIn combine l (joinBits (q .joins) S (q .joins .count)) S) (λ k site. rw (ne-eqb (ones S) 1 more) (joined-is combine C q l laid S s filled k site)) t low .at-is
+        (sites-kept combine C q l laid S s (joinedIn combine l (joinBits (q .joins) S (q .joins .count)) S) (λ k site. rw (ne-eqb (ones S) 1 more) (joined-is combine C q l laid S s filled k site)) t .at-is
         ∙ ap (λ (b : Best). b .at) (started-same combine q S t more))
 
     pub join-is : (k : ℕ) → k < sitesOf q → mayJoin q k ≡ true → (ones S ≡ 1 → ⊥) → joinBy combine l S k ≡ bestJoin combine q S k

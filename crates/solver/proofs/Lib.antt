@@ -1,6 +1,6 @@
+pub mod Routed
 pub mod Chosen
 pub mod Choices
-pub mod Stores
 pub mod PlanBytes
 pub mod Pieces
 pub mod WholePlan

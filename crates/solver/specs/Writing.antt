@@ -4,8 +4,6 @@ use mathlib.Core.Path.{_≡_}
 use mathlib.Core.List.{List}
 use lib.Bits.{bitAnd}
 use lib.Dec.{eqb}
-use lib.ListN.{length}
-use lib.Seq.{sets}
 use Rattle.relations.specs.Sets.{all}
 use Rattle.relations.specs.Trees.{Subquery}
 use Rattle.query.specs.declared.Query.{Query}
@@ -15,8 +13,10 @@ use Rattle.query.specs.Query.{relationsOf, sitesOf}
 use Rattle.tables.specs.Tables.{delivered, joined}
 use Rattle.board.specs.Figures.{placeOf}
 use Rattle.board.specs.Board.{endsAt, joinsAt}
-use Rattle.filler.specs.Trials.{Lent, sizeIn, joinTrial, joinedIn, siteIn}
+use Rattle.filler.specs.Trials.{Lent, sizeIn, joinTrial, joinedIn}
 use Rattle.filler.specs.Filling.{LaidOut, Filled}
+use Rattle.solver.specs.declared.writing.Due.{Due}
+use Rattle.router.specs.Routing.{siteIn}
 
 -- The joins in S among the first m, as bits, by their ends on the board.
 unfoldable pub joinsWithin : List ℕ → ℕ → ℕ → ℕ
@@ -30,10 +30,9 @@ siteBy combine l S t = siteIn (joinedIn combine l (joinsWithin (l .board) S (joi
 abbrev pub joinBy : (ℕ → ℕ → ℕ) → Lent → ℕ → ℕ → ℕ
 joinBy combine l S k = placeOf (joinTrial combine l (joinsWithin (l .board) S (joinsAt (l .board))) S k) 8
 
--- Bytes stored one after another from a place on.
-pub record Wrote (old : List ℕ) (at : ℕ) (bytes : List ℕ) (r : ℕ) (new : List ℕ) : Type 0 where
-  pub next : r ≡ at + length bytes
-  pub stored : new ≡ sets old at bytes
+-- A set at a site, where it costs a figure.
+abbrev pub dueOf : (S t figure : ℕ) → Due
+dueOf S t figure = record { set = S; site = t; figure = figure }
 
 -- What is lent is a query's with its cells filled, and S is a subquery of it.
 pub record Known (combine : ℕ → ℕ → ℕ) (q : Query) (l : Lent) (S : ℕ) : Type 0 where
@@ -41,11 +40,10 @@ pub record Known (combine : ℕ → ℕ → ℕ) (q : Query) (l : Lent) (S : ℕ
   pub filled : Filled combine q (l .places) (l .work) (all (relationsOf q))
   pub subquery : Subquery (q .joins) (relationsOf q) S
 
--- S is to be written as it is delivered at t, or as it is joined at k: there is a way.
-pub record ToDeliver (combine : ℕ → ℕ → ℕ) (q : Query) (l : Lent) (S t : ℕ) : Type 0 where
+-- S is to be written as it is delivered at t, which costs so much, or as it is joined at k: there is a way.
+pub record ToDeliver (combine : ℕ → ℕ → ℕ) (q : Query) (l : Lent) (S t cost : ℕ) : Type 0 where
   pub known : Known combine q l S
   pub listed : t < sitesOf q
-  pub cost : ℕ
   pub cost-is : delivered combine q S t ≡ some cost
 
 pub record ToJoin (combine : ℕ → ℕ → ℕ) (q : Query) (l : Lent) (S k : ℕ) : Type 0 where

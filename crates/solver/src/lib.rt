@@ -47,7 +47,15 @@ pub fn solve(q: Query, work: &mut [u64], plan: &mut [u8]) -> Solution
     let trials = q.sites.count as u64 * (tried + q.joins.count as u64);
     let figure = cheapest(&board, &q.sizes, &places, &*work, q.target);
     if figure < NONE {
-        let length = write_plan(&board, &q.sizes, &places, &*work, &mut *plan, q.target);
+        let length = write_plan(
+            &board,
+            &q.sizes,
+            &places,
+            &*work,
+            &mut *plan,
+            q.target,
+            figure,
+        );
         return Solution::Found {
             cost: Charge(figure),
             length,

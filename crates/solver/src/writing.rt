@@ -9,22 +9,27 @@ use board::joins_of;
 use board::side_at;
 use board::sites_of;
 use board::spared_row;
-use filler::carriage;
 use filler::joined_row;
+use filler::place;
 use filler::size_of;
 use filler::start_row;
 use filler::trial;
-use query::Bytes;
 use relations::SETS;
 use relations::bit;
 use relations::single;
 use relations::split;
 use relations::whole;
 use relations::within;
+use router::put;
+use router::put_route;
+use router::site_for;
+use sender::routed_row;
 ghost use Prim.Native.Nat.{ℕ, _+_, _^_, _≤_, _<_};
 ghost use mathlib.Core.Path.{_≡_};
 ghost use mathlib.Core.List.{[], _∷_, _++_};
 ghost use lib.ListN.{length, getD, drop};
+ghost use lib.Count.{ones};
+ghost use Rattle.relations.specs.Code.{mostSets};
 ghost use Rattle.relations.specs.Sets.{all};
 ghost use Rattle.query.specs.declared.Query.{Query};
 ghost use Rattle.query.specs.Choice.{pick};
@@ -32,33 +37,16 @@ ghost use Rattle.query.specs.Query.{relationsOf};
 ghost use Rattle.query.specs.Cost.{some};
 ghost use Rattle.rules.specs.Allowed.{longestPlan};
 ghost use Rattle.tables.specs.Tables.{cheapest};
-ghost use Rattle.tables.specs.Written.{sendIfDue, writtenDelivered, writtenJoined, stepBytes, written};
-ghost use Rattle.board.specs.Figures.{mark, ChoiceOf, Marked};
+ghost use Rattle.tables.specs.Written.{sendSteps, writtenDelivered, writtenJoined, stepBytes, written};
+ghost use Rattle.board.specs.Figures.{mark};
 ghost use Rattle.board.specs.Board.{joinsAt, sitesAt};
-ghost use Rattle.filler.specs.Trials.{lent, Carriable, siteTrial};
+ghost use Rattle.filler.specs.Trials.{lent};
+ghost use Rattle.sender.specs.Delivering.{Carriable};
+ghost use Rattle.filler.specs.Cells.{placeIn};
+ghost use Rattle.router.specs.Routing.{RoutesTo, stopsIn, carriageIn, routeIn, Carried};
 ghost use Rattle.filler.specs.Filling.{LaidOut, Filled};
-ghost use Rattle.solver.specs.Writing.{joinsWithin, Wrote, ToDeliver, ToJoin, siteBy, joinBy};
-
-// Writes a step: its kind and its argument.
-fn put(out: &mut [u8], at: usize, kind: u8, arg: usize) -> usize
-    requires { ⌜ (at + 2 ≤ length (now out)) × (arg < 256) ⌝ }
-    ensures { λ r. ⌜ Wrote (now (out .entry)) at (kind ∷ (arg ∷ [])) r (now (out .exit)) ⌝ }
-{
-    out[at] = kind;
-    out[at + 1] = arg as u8;
-    at + 2
-}
-
-// Writes a send from k to t if one is due.
-fn put_send(out: &mut [u8], at: usize, k: usize, t: usize) -> usize
-    requires { ⌜ (at + length (stepBytes (sendIfDue k t)) ≤ length (now out)) × (t < 256) ⌝ }
-    ensures { λ r. ⌜ Wrote (now (out .entry)) at (stepBytes (sendIfDue k t)) r (now (out .exit)) ⌝ }
-{
-    if k == t {
-        return at;
-    }
-    put(out, at, 2, t)
-}
+ghost use Rattle.solver.specs.Writing.{joinsWithin, dueOf, ToDeliver, ToJoin, siteBy, joinBy};
+ghost use Rattle.router.specs.Wrote.{Wrote};
 
 // Join e as a bit where it lies in the set, else nothing.
 fn bit_within(inside: bool, e: usize) -> usize
@@ -83,25 +71,6 @@ fn joins_within(board: &[u64; BOARD], set: usize) -> usize
     found
 }
 
-// The least figure at t and its lowest site, by what a set has cost at each site.
-fn best_site(board: &[u64; BOARD], row: &[u64; 8], size: Bytes, t: usize) -> Choice
-    requires { ⌜ Marked (now row) × (Carriable (now board) (size .0) × (t < 8)) ⌝ }
-    ensures { λ r. ⌜ ChoiceOf (siteTrial (λ (k : ℕ). getD (now (row .entry)) k 0) (now (board .entry)) (size .0) t) (sitesAt (now (board .entry))) r ⌝ }
-{
-    let sites = sites_of(board);
-    let mut best = Choice {
-        figure: NONE,
-        at: 0,
-    };
-    let mut k = 0;
-    while k < sites {
-        let sent = carriage(board, size, k, t);
-        best = better(row[k] + sent.0, k, best);
-        k += 1;
-    }
-    best
-}
-
 // What the whole query costs at the query site, as a figure. Its cells are nobody's part, so that they are not kept.
 pub(crate) fn cheapest<'a>(
     board: &'a [u64; BOARD],
@@ -124,25 +93,39 @@ pub(crate) fn cheapest<'a>(
         every,
         joins_within(board, every),
     );
-    let best = best_site(board, &row, size_of(sizes, every), target);
-    best.figure
+    let cells = routed_row(board, row, size_of(sizes, every));
+    cells[target]
 }
 
-// The site where a set is joined for delivery at t.
+// What is due: a figure, which a set costs at a site.
+pub struct Due {
+    pub figure: u64,
+    pub set: usize,
+    pub site: usize,
+}
+
+// The site where a set is joined for its delivery, and the carriage from there.
 fn join_site<'a>(
     board: &'a [u64; BOARD],
     sizes: &'a [u32; SETS],
     places: &'a [u32; SETS],
     work: &[u64],
-    set: usize,
-    t: usize,
-) -> usize
-    requires { ⌜ ((q : Query) × (ToDeliver _+_ q (lent (now board) (now sizes) (now places) (now work)) set t)) ⌝ }
-    ensures { λ r. ⌜ r ≡ siteBy _+_ (lent (now (board .entry)) (now (sizes .entry)) (now (places .entry)) (now (work .entry))) set t ⌝ }
+    due: Due,
+) -> Choice
+    requires { ⌜ ((q : Query) × (ToDeliver _+_ q (lent (now board) (now sizes) (now places) (now work)) (due .set) (due .site) (due .figure) × (ones (due .set) ≡ 1 → ⊥))) ⌝ }
+    ensures { λ r.
+        ⌜ (r .at ≡ siteBy _+_ (lent (now (board .entry)) (now (sizes .entry)) (now (places .entry)) (now (work .entry))) (due .set) (due .site))
+        × (r .figure ≡ carriageIn (now (board .entry)) (getD (now (sizes .entry)) (due .set) 0) (r .at) (due .site)) ⌝ }
 {
-    let row = joined_row(board, sizes, places, work, set, joins_within(board, set));
-    let best = best_site(board, &row, size_of(sizes, set), t);
-    best.at
+    let row = joined_row(
+        board,
+        sizes,
+        places,
+        work,
+        due.set,
+        joins_within(board, due.set),
+    );
+    site_for(board, &row, size_of(sizes, due.set), due.site, due.figure)
 }
 
 // The join that is taken last for a set at site k.
@@ -179,7 +162,20 @@ fn last_join<'a>(
     best.at
 }
 
-// Writes the steps that deliver a set at t: the load for one relation, else those of its join; then a send if one is due.
+// A set at a site, by its cell.
+fn due_at(places: &[u32; SETS], work: &[u64], set: usize, k: usize) -> Due
+    requires { ⌜ ((set < mostSets) × (k < 8)) × (placeIn (now places) set k < length (now work)) ⌝ }
+    ensures { λ r. ⌜ r ≡ dueOf set k (getD (now (work .entry)) (placeIn (now (places .entry)) set k) 0) ⌝ }
+{
+    let at = place(places, set, k);
+    Due {
+        set,
+        site: k,
+        figure: work[at],
+    }
+}
+
+// Writes the steps that deliver a set at a site: the load for one relation, else those of its join; then the sends that are due.
 fn write_delivered<'a>(
     board: &'a [u64; BOARD],
     sizes: &'a [u32; SETS],
@@ -187,23 +183,38 @@ fn write_delivered<'a>(
     work: &[u64],
     out: &mut [u8],
     at: usize,
-    set: usize,
-    t: usize,
+    due: Due,
 ) -> usize
-    requires { ⌜ ((q : Query) × (ToDeliver _+_ q (lent (now board) (now sizes) (now places) (now work)) set t × (at + length (stepBytes (writtenDelivered _+_ q set t)) ≤ length (now out)))) ⌝ }
+    requires { ⌜ ((q : Query) × (ToDeliver _+_ q (lent (now board) (now sizes) (now places) (now work)) (due .set) (due .site) (due .figure) × (at + length (stepBytes (writtenDelivered _+_ q (due .set) (due .site))) ≤ length (now out)))) ⌝ }
     ensures { λ r.
-        ⌜ ((q : Query) → ToDeliver _+_ q (lent (now (board .entry)) (now (sizes .entry)) (now (places .entry)) (now (work .entry))) set t →
-        Wrote (now (out .entry)) at (stepBytes (writtenDelivered _+_ q set t)) r (now (out .exit))) ⌝ }
+        ⌜ ((q : Query) → ToDeliver _+_ q (lent (now (board .entry)) (now (sizes .entry)) (now (places .entry)) (now (work .entry))) (due .set) (due .site) (due .figure) →
+        Wrote (now (out .entry)) at (stepBytes (writtenDelivered _+_ q (due .set) (due .site))) r (now (out .exit))) ⌝ }
 {
-    if usize::count_ones(set) == 1 {
-        let r = usize::trailing_zeros(set) as usize;
+    if usize::count_ones(due.set) == 1 {
+        let r = usize::trailing_zeros(due.set) as usize;
         let home = usize::trailing_zeros(homes_at(board, r)) as usize;
         let next = put(&mut *out, at, 1, r);
-        return put_send(&mut *out, next, home, t);
+        return put_route(
+            board,
+            &mut *out,
+            next,
+            size_of(sizes, due.set),
+            home,
+            due.site,
+            due.figure,
+        );
     }
-    let k = join_site(board, sizes, places, work, set, t);
-    let next = write_joined(board, sizes, places, work, &mut *out, at, set, k);
-    put_send(&mut *out, next, k, t)
+    let from = join_site(board, sizes, places, work, due);
+    let next = write_joined(board, sizes, places, work, &mut *out, at, due.set, from.at);
+    put_route(
+        board,
+        &mut *out,
+        next,
+        size_of(sizes, due.set),
+        from.at,
+        due.site,
+        from.figure,
+    )
 }
 
 // Writes the steps that join a set at k: the part with the join's first relation, the other part and the join.
@@ -224,8 +235,10 @@ fn write_joined<'a>(
 {
     let e = last_join(board, sizes, places, work, set, k);
     let parts = split(set, side_at(board, e));
-    let next = write_delivered(board, sizes, places, work, &mut *out, at, parts.first, k);
-    let last = write_delivered(board, sizes, places, work, &mut *out, next, parts.second, k);
+    let one = due_at(places, work, parts.first, k);
+    let next = write_delivered(board, sizes, places, work, &mut *out, at, one);
+    let other = due_at(places, work, parts.second, k);
+    let last = write_delivered(board, sizes, places, work, &mut *out, next, other);
     put(&mut *out, last, 3, e)
 }
 
@@ -237,15 +250,21 @@ pub(crate) fn write_plan<'a>(
     work: &[u64],
     out: &mut [u8],
     target: usize,
+    figure: u64,
 ) -> usize
-    requires { ⌜ ((q : Query) × ((LaidOut q (lent (now board) (now sizes) (now places) (now work)) × Filled _+_ q (now places) (now work) (all (relationsOf q))) × ((q .target ≡ target) × (((c : ℕ) × (cheapest _+_ q ≡ some c)) × (longestPlan ≤ length (now out)))))) ⌝ }
+    requires { ⌜ ((q : Query) × ((LaidOut q (lent (now board) (now sizes) (now places) (now work)) × Filled _+_ q (now places) (now work) (all (relationsOf q))) × ((q .target ≡ target) × ((cheapest _+_ q ≡ some figure) × (longestPlan ≤ length (now out)))))) ⌝ }
     ensures { λ r.
         ⌜ ((q : Query) → LaidOut q (lent (now (board .entry)) (now (sizes .entry)) (now (places .entry)) (now (work .entry))) → Filled _+_ q (now (places .entry)) (now (work .entry)) (all (relationsOf q)) → q .target ≡ target →
-        (c : ℕ) → cheapest _+_ q ≡ some c →
+        cheapest _+_ q ≡ some figure →
         (r ≡ length (written _+_ q)) × (now (out .exit) ≡ written _+_ q ++ drop (length (written _+_ q)) (now (out .entry)))) ⌝ }
 {
     let every = whole(joins_of(board) + 1);
-    let end = write_delivered(board, sizes, places, work, &mut *out, 1, every, target);
+    let due = Due {
+        set: every,
+        site: target,
+        figure,
+    };
+    let end = write_delivered(board, sizes, places, work, &mut *out, 1, due);
     out[0] = ((end - 1) / 2) as u8;
     end
 }

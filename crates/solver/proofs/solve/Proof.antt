@@ -58,12 +58,12 @@ solve-spec =
     (λ c κs. let f : tie.After-fill = c .before .before .before .before .before .before .before in let l = fillable (f .before) .laid in
     (_, ((laid-here _ _ _ _ (l .valid) (l .board), filled f .cells), refl)))
     (λ c κs. let t : tie.Then1 = c .before .before .before .before .before .before in let f = filling (t .before) in let l = fillable (f .before) .laid in
-    (_, ((laid-here _ _ _ _ (l .valid) (l .board), filled f .cells), (refl, ((_, number t), entry (f .before) .pre .1 .1)))))
+    (_, ((laid-here _ _ _ _ (l .valid) (l .board), filled f .cells), (refl, (number t, entry (f .before) .pre .1 .1)))))
     (λ c. search needs)
     (λ c. search needs)
     (λ c. let w = c .before .before in let t : tie.Then1 = w .before .before .before .before .before .before .before in let f = filling (t .before) in
     let l = fillable (f .before) .laid in
-    answer-found _ _ _ _ _ (filled f) (l .valid) _ (omega arith) _ _ _ _ (number t) (w .write-plan .ensures _ (laid-here _ _ _ _ (l .valid) (l .board)) (filled f .cells) refl _ (number t)))
+    answer-found _ _ _ _ _ (filled f) (l .valid) _ (omega arith) _ _ _ _ (number t) (w .write-plan .ensures _ (laid-here _ _ _ _ (l .valid) (l .board)) (filled f .cells) refl (number t)))
     (λ c. search needs)
     (λ c. let f = filling (c .before) in let v = entry (f .before) .pre .0 in
     answer-none _ _ _ _ _ (filled f) v _ (omega arith) _ (cheapest-none _+_ plus-combines _ v _ (figure (c .before)) (c .if1 .left))))

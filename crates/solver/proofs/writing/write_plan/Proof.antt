@@ -13,12 +13,12 @@ write-plan-spec =
     (λ c. search needs)
     (λ c κs. search needs)
     (λ c κs. let every = c .before in let s = every .before .before .before .before in
-    plan-asked _ plus-combines _ _ _ _ (every .before .joins-of .ensures) (every .whole .ensures) (s .args .out .now) (s .pre))
+    plan-asked _ plus-combines _ _ _ _ (every .before .joins-of .ensures) (every .whole .ensures) _ (s .args .out .now) (s .pre))
     (λ c. let steps = c .before .before in let every = steps .before .before in let s = every .before .before .before .before in
-    plan-some _ plus-combines _ _ _ _ (every .before .joins-of .ensures) (every .whole .ensures) _ _ _ (s .pre) (steps .write-delivered .ensures))
+    plan-some _ plus-combines _ _ _ _ (every .before .joins-of .ensures) (every .whole .ensures) _ _ _ _ (s .pre) (steps .write-delivered .ensures))
     (λ c. let steps = c .before .before in let every = steps .before .before in let s = every .before .before .before .before in
-    plan-few _ plus-combines _ _ _ _ (every .before .joins-of .ensures) (every .whole .ensures) _ _ _ (s .pre) (steps .write-delivered .ensures))
+    plan-few _ plus-combines _ _ _ _ (every .before .joins-of .ensures) (every .whole .ensures) _ _ _ _ (s .pre) (steps .write-delivered .ensures))
     (λ c. search needs)
     (λ c. search needs)
     (λ c. let steps = c .before .before in let every = steps .before .before in let s = every .before .before .before .before in
-    plan-is _ plus-combines _ _ _ _ (every .before .joins-of .ensures) (every .whole .ensures) _ _ _ (s .pre) (steps .write-delivered .ensures)))
+    plan-is _ plus-combines _ _ _ _ (every .before .joins-of .ensures) (every .whole .ensures) _ _ _ _ (s .pre) (steps .write-delivered .ensures)))

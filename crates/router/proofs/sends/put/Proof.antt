@@ -1,10 +1,10 @@
--- `writing::put` meets its contract: two bytes, one after the other. Assumes nothing.
+-- `sends::put` meets its contract: two bytes, one after the other. Assumes nothing.
 use native.Mathlib.Omega.{arith}
 use lib.ListN.{length-set}
 use borrow.Author.Needs.{needs}
-use Rattle.solver.proofs.Stores.{wrote-two}
-use Rattle.solver.proofs.writing.put.Statement.{statement}
-use Rattle.solver.proofs.writing.put.Tie as tie
+use Rattle.router.proofs.Stores.{wrote-two}
+use Rattle.router.proofs.sends.put.Statement.{statement}
+use Rattle.router.proofs.sends.put.Tie as tie
 
 pub put-spec : {M : Type 1} → statement M
 put-spec =
