@@ -1,4 +1,5 @@
--- The numbers that the report server's call returns: load refuses 1 to 5, a written plan has 1 to 69 bytes, and no other refusal is left.
+-- The numbers that the report server's call returns: load refuses 1 to 5, a written plan has a byte and at most as many as the longest, and no other refusal
+-- is left.
 use Prim.Native.Nat.{ℕ, _+_, _≤_}
 use native.Mathlib.Omega.{arith}
 use mathlib.Core.Path.{_≡_, refl}
@@ -31,7 +32,7 @@ use Rattle.fanchuki.specs.Served.{onSolved, onLoaded, serve, Number, pla
 written-number : (c t : ℕ) (p out : List ℕ) → 1 ≤ length p → length p ≤ longestPlan → Number (length out) (onSolved (writing c t p out .answer))
 written-number c t p out some-bytes most =
     pick-all (λ (x : Solving). Number (length out) (onSolved (x .answer))) (ltb (length out) (length p)) _ _
-    (λ e. short-output (omega (arith, ltb-true (length out) (length p) e)))
+    (λ e. short-output (omega (arith, ltb-true (length out) (length p) e)) (omega arith))
     (λ e. plan (length p) some-bytes most)
 
 solved-number : (q : Query) → Valid q → (c : Cost) → cheapest _+_ q ≡ c → (out : List ℕ) → Number (length out) (onSolved (solved q c out .answer))
@@ -45,5 +46,5 @@ every-number query out = go (decode form.Sizes query) (decode-refusals form.Size
     go :
         (x : Read Query) → ((k : ℕ) → x ≡ fields.refused k → (1 ≤ k) × (k ≤ 5)) → ((q : Query) (l : List ℕ) → x ≡ value q l → Valid q) →
         Number (length out) (onLoaded (loadDecoded x none .answer) (loadDecoded x none .next) out .number)
-    go (fields.refused k) h v = of-the-file k (h k refl .0) (h k refl .1)
+    go (fields.refused k) h v = of-the-file k (h k refl .0) (h k refl .1) (omega arith)
     go (value q l) h v = rw (solve-needed q out) (solved-number q (v q l refl) (cheapest _+_ q) refl out)

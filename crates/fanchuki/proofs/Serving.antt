@@ -28,7 +28,7 @@ use Rattle.planner.specs.Solve.{found, noRoute, Solving, solvingOf, solved, sol
 use Rattle.planner.specs.Solve as Solve
 use Rattle.planner.specs.Contracts.{stateOf, doneOf, ofLoad, ofSolve}
 use Rattle.planner.proofs.Cells.{needed-enough, solve-enough}
-use Rattle.fanchuki.specs.Served.{served, onSolved, onStanding, serve}
+use Rattle.fanchuki.specs.Served.{served, refusal, onSolved, onStanding, serve}
 
 -- A refusal is a number of a byte. Solve is the last call: the number of its refusal, 0 where there is none.
 abbrev solveRefusal : Solve.Answer → ℕ
@@ -69,7 +69,7 @@ module _ (a : LoadAnswer) (p first : Planner) (query : List ℕ) (empty : stateO
   pub load-byte : (k : ℕ) → a ≡ LoadAnswer.Refused k → k ≤ 255
   load-byte k is = rw (← done, is) at (load-low query (stateOf first))
 
-  pub load-refused : (k r : ℕ) (out : List ℕ) → a ≡ LoadAnswer.Refused k → r ≡ 256 + k → served r out ≡ serve query out
+  pub load-refused : (k r : ℕ) (out : List ℕ) → a ≡ LoadAnswer.Refused k → r ≡ refusal k → served r out ≡ serve query out
   unfolding serve
   load-refused k r out is e = rw (← empty, ← done, is, e)
 
@@ -90,7 +90,7 @@ module _
     pub solve-none : (t : ℕ) → b ≡ SolveAnswer.NoRoute t → served 0 new ≡ onStanding s out
     solve-none t is = rw is at by-solve
 
-    pub solve-refused : (k r : ℕ) → b ≡ SolveAnswer.Refused k → r ≡ 256 + k → served r new ≡ onStanding s out
+    pub solve-refused : (k r : ℕ) → b ≡ SolveAnswer.Refused k → r ≡ refusal k → served r new ≡ onStanding s out
     solve-refused k r is e = rw e (rw is at by-solve)
 
 pub ruleset serving = (load-byte, load-refused, load-goes, solve-byte, solve-found, solve-none, solve-refused, needed-enough)

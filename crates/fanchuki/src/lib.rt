@@ -3,22 +3,24 @@ use planner::CELLS;
 use planner::LoadAnswer;
 use planner::Planner;
 use planner::SolveAnswer;
-ghost use Prim.Native.Nat.{_+_, _≤_};
+ghost use Prim.Native.Nat.{_≤_};
 ghost use mathlib.Core.Path.{_≡_};
 ghost use lib.ListN.{length};
 ghost use Rattle.planner.specs.Solve.{needed};
 ghost use Rattle.planner.specs.Contracts.{stateOf, Sound};
-ghost use Rattle.fanchuki.specs.Served.{served, onStanding, serve};
+ghost use Rattle.fanchuki.specs.Served.{served, refusal, onStanding, serve};
 
 // As many cells as a small query needs: a call clears what it lends, which takes a good part of a small one.
 const FEW: usize = 128;
 
-// What stands for a refusal: 256 plus its number.
+// What stands for a refusal: this plus its number.
+const REFUSED: u64 = 1024;
+
 fn refusal(k: u64) -> u64
     requires { ⌜ k ≤ 255 ⌝ }
-    ensures { λ r. ⌜ r ≡ 256 + k ⌝ }
+    ensures { λ r. ⌜ r ≡ refusal k ⌝ }
 {
-    256 + k
+    REFUSED + k
 }
 
 // Solves the standing query over cells enough.

@@ -11,10 +11,11 @@ use Rattle.decoder.specs.Decode.{decode}
 use Rattle.files.specs.Ordinary.{bytesOf, amounts, sizesBytes, ordinary}
 use Rattle.sizing.specs.Worked.{lowestWhere, links, joinTo, mayJoinIn, next, takenAfter, joinedSize, sizeAfter, workedSize, sizesBelow, workedSizes}
 use Rattle.query.specs.Query.{home, index, mayJoin, joinFixed, joinRate, isOpen, lineFixed, lineRate, size}
-use Rattle.query.specs.Prices.{parcels, linePrice, carriage, reads, joinPrice, indexed}
+use Rattle.query.specs.Prices.{parcels, linePrice, sending, reads, joinPrice, indexed}
 use Rattle.rules.specs.Machine as machine
 use Rattle.rules.specs.Allowed as plans
-use Rattle.tables.specs.Least.{best}
+use Rattle.routes.specs.Least.{best}
+use Rattle.routes.specs.Routes.{bySends, cheapestRoute, fewestSends, nextSite, stops}
 use Rattle.tables.specs.Tables.{byJoin, joinedBy, deliveredBy, deliveredUpTo, delivered, joined, joinsBelow}
 use Rattle.tables.specs.Written.{bestSite, bestJoin, joinedSteps, deliveredSteps, stepsUpTo, writtenDelivered}
 use Rattle.tables.specs.Work.{cellsNeeded}
@@ -25,7 +26,7 @@ use Rattle.planner.specs.Check.{check}
 use Rattle.planner.specs.Worked.{Worked}
 
 pub worked : Worked
-unfolding ones onesIn trailingZeros bit put inside leads step grow isSubquery countBelow reaches part number field items storing section terms two sitesSection relationsSection joinsSection sized sizesSection line sender linesSection deliverySection countsSection rowsSections decode bytesOf amounts sizesBytes ordinary lowestWhere links joinTo mayJoinIn next takenAfter joinedSize sizeAfter workedSize sizesBelow workedSizes home index mayJoin joinFixed joinRate isOpen lineFixed lineRate size parcels linePrice carriage reads joinPrice indexed machine.load machine.sendTop machine.send machine.links machine.qualifies machine.joinTop machine.join machine.step plans.finish plans.run plans.checked best byJoin joinedBy deliveredBy deliveredUpTo delivered joined joinsBelow bestSite bestJoin joinedSteps deliveredSteps stepsUpTo writtenDelivered cellsNeeded loadBy sitesListed termsInRange link solve check
+unfolding ones onesIn trailingZeros bit put inside leads step grow isSubquery countBelow reaches part number field items storing section terms two sitesSection relationsSection joinsSection sized sizesSection line sender linesSection deliverySection countsSection rowsSections decode bytesOf amounts sizesBytes ordinary lowestWhere links joinTo mayJoinIn next takenAfter joinedSize sizeAfter workedSize sizesBelow workedSizes home index mayJoin joinFixed joinRate isOpen lineFixed lineRate size parcels linePrice sending reads joinPrice indexed machine.load machine.sendTop machine.send machine.links machine.qualifies machine.joinTop machine.join machine.step plans.finish plans.run plans.checked best bySends cheapestRoute fewestSends nextSite stops byJoin joinedBy deliveredBy deliveredUpTo delivered joined joinsBelow bestSite bestJoin joinedSteps deliveredSteps stepsUpTo writtenDelivered cellsNeeded loadBy sitesListed termsInRange link solve check
 worked = record {
   q-length = refl;
   q-decoded = refl;
@@ -70,6 +71,8 @@ worked = record {
   link-6-twice = refl;
   link-3 = refl;
   check-7 = refl;
+  check-137 = refl;
+  check-136 = refl;
   check-8 = refl;
   check-9 = refl;
   check-10 = refl;

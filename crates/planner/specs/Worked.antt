@@ -61,7 +61,7 @@ abbrev pub row5 : Query
 row5 = withLines (closing 1 0 (Q .lines)) Q
 
 abbrev pub row5Plan : List ℕ
-row5Plan = 6 ∷ 1 ∷ 0 ∷ 2 ∷ 2 ∷ 1 ∷ 1 ∷ 2 ∷ 2 ∷ 3 ∷ 0 ∷ 2 ∷ 0 ∷ []
+row5Plan = 5 ∷ 1 ∷ 0 ∷ 1 ∷ 1 ∷ 2 ∷ 2 ∷ 2 ∷ 0 ∷ 3 ∷ 0 ∷ []
 
 abbrev pub row6 : Query
 row6 = withLines (closing 2 0 (row5 .lines)) Q
@@ -82,7 +82,7 @@ pub record Worked : Type 0 where
   -- The line from 1 to 0 is closed: the plan is no longer allowed, and solve writes row 5's over it.
   pub link-row5 : Link.link (linkOf 1 0 0 1 1) (some Q) ≡ doneWith Link.linked (some row5)
   pub check-row5 : Check.check qPlan (some row5) ≡ Check.refused 10 2
-  pub solve-row5 : Solve.solve 9 (qPlan ++ replicate 4 7) (some row5) ≡ solvingOf (Solve.found 26 13 3) row5Plan
+  pub solve-row5 : Solve.solve 9 (qPlan ++ replicate 4 7) (some row5) ≡ solvingOf (Solve.found 23 11 3) (row5Plan ++ replicate 2 7)
   -- The line from 2 to 0 is closed too: no route, whatever the output's length. Or Q is loaded again.
   pub link-row6 : Link.link (linkOf 2 0 0 1 1) (some row5) ≡ doneWith Link.linked (some row6)
   pub solve-row6 : Solve.solve 9 row5Plan (some row6) ≡ solvingOf (Solve.noRoute 3) row5Plan
@@ -124,8 +124,10 @@ pub record Worked : Type 0 where
   pub link-3 : Link.link (linkOf 1 0 0 1 1_001) (some Q) ≡ doneWith (Link.refused 3) (some Q)
   -- Check: an empty plan; kind 4; relation 0 twice; a send of what was sent; a join of results at two sites; the join left out.
   pub check-7 : Check.check [] (some Q) ≡ Check.refused 7 0
+  pub check-137 : Check.check (137 ∷ replicate 274 1) (some Q) ≡ Check.refused 7 0
+  pub check-136 : Check.check (136 ∷ replicate 272 1) (some Q) ≡ Check.refused 9 1
   pub check-8 : Check.check (2 ∷ 1 ∷ 0 ∷ 4 ∷ 0 ∷ []) (some Q) ≡ Check.refused 8 1
   pub check-9 : Check.check (2 ∷ 1 ∷ 0 ∷ 1 ∷ 0 ∷ []) (some Q) ≡ Check.refused 9 1
-  pub check-10 : Check.check (3 ∷ 1 ∷ 1 ∷ 2 ∷ 2 ∷ 2 ∷ 0 ∷ []) (some Q) ≡ Check.refused 10 2
+  pub check-10 : Check.check (3 ∷ 1 ∷ 1 ∷ 2 ∷ 2 ∷ 2 ∷ 2 ∷ []) (some Q) ≡ Check.refused 10 2
   pub check-11 : Check.check (3 ∷ 1 ∷ 0 ∷ 1 ∷ 1 ∷ 3 ∷ 0 ∷ []) (some Q) ≡ Check.refused 11 2
   pub check-12 : Check.check (3 ∷ 1 ∷ 0 ∷ 1 ∷ 1 ∷ 2 ∷ 0 ∷ []) (some Q) ≡ Check.refused 12 3
