@@ -3,14 +3,14 @@
 import ctypes
 import sys
 
-LONGEST_PLAN, NO_ROUTE, REFUSED = 69, 0, 256  # as include/fanchuki.h has them
+LONGEST_PLAN, NO_ROUTE, REFUSED = 273, 0, 1024  # as include/fanchuki.h has them
 KIND = {1: "load", 2: "send", 3: "join"}
 
 if len(sys.argv) != 2:
     sys.exit(__doc__)
 with open(sys.argv[1], "rb") as file:
     query = file.read()
-fanchuki_plan = ctypes.CDLL("libfanchuki.so.1").fanchuki_plan
+fanchuki_plan = ctypes.CDLL("libfanchuki.so.2").fanchuki_plan
 fanchuki_plan.restype = ctypes.c_uint64
 fanchuki_plan.argtypes = [ctypes.c_char_p, ctypes.c_size_t, ctypes.c_char_p, ctypes.c_size_t]
 plan = ctypes.create_string_buffer(LONGEST_PLAN)

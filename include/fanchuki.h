@@ -1,11 +1,12 @@
 /* Fanchuki: the cheapest plan for a query of up to nine relations joined across up to eight sites.
  *
  * Cheapest is by the query's prices: a line charges its fixed amount and its rate for each started parcel of 8 bytes that it
- * carries, a site its fixed amount and its rate for each byte that a join there reads and makes. A relation with an index
- * that was not sent is read by it and not counted; of two such operands of a join only the larger is. docs/FORMAT.md has the
- * query file (the ordinary one, which states its sizes) and the plan byte by byte. The function is proved: what it returns
- * and what it writes is its contract, for every query and every output. For x86-64. Link by
- * `pkg-config --cflags --libs fanchuki` where it is installed, or with libfanchuki.a (`rt staticlib fanchuki`).
+ * carries, a site its fixed amount and its rate for each byte that a join there reads and makes. What is sent may go
+ * by way of other sites, a send after a send. A relation with an index that was not sent is read by it and not counted; of
+ * two such operands of a join only the larger is. docs/FORMAT.md has the query file (the ordinary one, which states its
+ * sizes) and the plan byte by byte. The function is proved: what it returns and what it writes is its contract, for every
+ * query and every output. For x86-64. Link by `pkg-config --cflags --libs fanchuki` where it is installed, or with
+ * libfanchuki.a (`rt staticlib fanchuki`).
  */
 #ifndef FANCHUKI_H
 #define FANCHUKI_H
@@ -19,7 +20,7 @@ extern "C" {
 
 /* The longest query file and the longest plan, in bytes. An output of FANCHUKI_LONGEST_PLAN bytes is never too short. */
 #define FANCHUKI_LONGEST_QUERY 1674
-#define FANCHUKI_LONGEST_PLAN 69
+#define FANCHUKI_LONGEST_PLAN 273
 
 /* The stack that the call needs, in bytes, its work area of 17 KB among them. Measured, not proved: tests/c/stack.c measures
  * it and holds this figure to it from both sides. A program that binds memcpy and memset at their first call (linked without
@@ -37,7 +38,7 @@ enum fanchuki_kind {
 #define FANCHUKI_NO_ROUTE 0
 
 /* An answer from here on is a refusal: subtract this to have its number. */
-#define FANCHUKI_REFUSED 256
+#define FANCHUKI_REFUSED 1024
 
 enum fanchuki_refusal {
     /* the query file is refused */
@@ -51,7 +52,7 @@ enum fanchuki_refusal {
 
     /* never answered by fanchuki_plan: the refusals of link, solve and check, as the program `calls` lists them */
     FANCHUKI_LINK_SITES = 6,        /* a link names an unlisted site, or one site twice */
-    FANCHUKI_PLAN_LENGTH = 7,       /* a plan's count is outside 1 to 34 or its length isn't 1 + 2 x count */
+    FANCHUKI_PLAN_LENGTH = 7,       /* a plan's count is outside 1 to 136 or its length isn't 1 + 2 x count */
     FANCHUKI_UNKNOWN_STEP = 8,      /* unknown kind, or argument not in the query */
     FANCHUKI_LOADED_BEFORE = 9,     /* the relation was loaded before */
     FANCHUKI_SEND_NOT_ALLOWED = 10, /* send not allowed, or nothing held */

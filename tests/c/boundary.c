@@ -63,7 +63,7 @@ static void hold(const call *c)
     hold_at(c, AT_BACK, AT_BACK);
 }
 
-/* Every cut of the file, the file with one byte behind, and the file with every length of output up to 80. */
+/* Every cut of the file, the file with one byte behind, and the file with every length of output up to one too many. */
 static void hold_example(const example *e)
 {
     static call c;
@@ -77,7 +77,7 @@ static void hold_example(const example *e)
     c.answer = FANCHUKI_REFUSED + FANCHUKI_BYTES_FOLLOW;
     hold(&c);
     c.query_length = e->length;
-    for (c.output_length = 0; c.output_length <= 80; c.output_length++) {
+    for (c.output_length = 0; c.output_length <= FANCHUKI_LONGEST_PLAN + 1; c.output_length++) {
         c.answer = c.output_length < e->plan_length ? FANCHUKI_REFUSED + FANCHUKI_SHORT_OUTPUT : e->plan_length;
         hold(&c);
     }
@@ -93,7 +93,7 @@ static void hold_no_route(const example *q)
     c.query[lines + 4 * 9] = 0;
     c.query_length = q->length;
     c.answer = FANCHUKI_NO_ROUTE;
-    for (c.output_length = 0; c.output_length <= 80; c.output_length++)
+    for (c.output_length = 0; c.output_length <= FANCHUKI_LONGEST_PLAN + 1; c.output_length++)
         hold(&c);
     expect("no route, null output", fanchuki_plan(c.query, c.query_length, NULL, 0), FANCHUKI_NO_ROUTE);
 }

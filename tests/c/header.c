@@ -10,8 +10,8 @@
 AGREES(sixty_four_bits, sizeof(size_t) == 8);
 /* eight sites, nine relations in a star, which have 264 subqueries */
 AGREES(longest_query, FANCHUKI_LONGEST_QUERY == 1 + 8 * 9 + 1 + 9 * 2 + 1 + 8 * 2 + 2 + 264 * 4 + 1 + 8 * 7 * 9 + 1 + 1);
-/* nine loads, eight joins, and each relation and each joined result sent */
-AGREES(longest_plan, FANCHUKI_LONGEST_PLAN == 1 + 2 * (9 + 8 + 9 + 8));
+/* nine loads, eight joins, and each relation and each joined result sent over seven lines */
+AGREES(longest_plan, FANCHUKI_LONGEST_PLAN == 1 + 2 * (9 + 8 + (9 + 8) * 7));
 /* the work area of the heaviest query, eight bytes a cell */
 AGREES(stack_has_the_cells, FANCHUKI_STACK > 264 * 8 * 8);
 AGREES(kinds, FANCHUKI_LOAD == 1 && FANCHUKI_SEND == 2 && FANCHUKI_JOIN == 3);
