@@ -7,16 +7,16 @@
 import sys
 
 sys.dont_write_bytecode = True
-from script import areas, checks, indexes, loads, rooms, rows, solves, states  # noqa: E402
-from script.records import solve  # noqa: E402
+from script import areas, checks, indexes, loads, rooms, routes, rows, solves, states  # noqa: E402
+from script.records import LONGEST_PLAN, solve  # noqa: E402
 
 
 def script():
-    for group in states, areas, loads, rows, solves, indexes, checks, rooms:
+    for group in states, areas, loads, rows, solves, indexes, routes, checks, rooms:
         yield from group.script()
     # an unknown record ends the run
     yield b"\x03", []
-    yield solve(4096, 69), []
+    yield solve(4096, LONGEST_PLAN), []
 
 
 if len(sys.argv) not in (2, 3):

@@ -1,6 +1,6 @@
 """What is lent to solve: outputs of every length around a plan's, cells around what is needed, and which of them is judged first."""
 from script.queries import chain, closed, every, file, q, star
-from script.records import link, load, no_route, refused, room, solve, solved, steps
+from script.records import LONGEST_PLAN, link, load, no_route, refused, room, solve, solved, steps
 from script.solves import FREE, beside
 from script.states import BEST, DETOUR
 
@@ -16,26 +16,28 @@ def into(outputs, cells, cost, trials, plan):
 
 
 def longest_plan():
-    """The query of examples/longest-plan.txt, each of whose joins is cheapest at the next site."""
+    """The query of examples/longest-plan.txt, each of whose joins is cheapest at the next site, seven sends away."""
 
     def size(subquery):
         relations = bin(subquery).count("1")
         return 4 ** (relations - 1) if relations == 1 or subquery & 1 else 1_000_000_000
 
     sites = [(1, 10 * (4**k - 1) // 3, 7 - k) for k in range(8)]
-    return file(sites, [(7, 0)] * 8 + [(0, 0)], chain(9), size, every(1, 0, 0), 0)
+    homes = [7, 7, 0, 1, 2, 3, 4, 5, 6]
+    return file(sites, [(home, 0) for home in homes], chain(9), size, lambda a, b: (int(b == (a - 1) % 8), 0, 0), 0)
 
 
 def outputs():
-    """From no byte to one more than the plan has, for rows 1 and 5 of rule 10.3; and beside 69 bytes."""
+    """From no byte to one more than the plan has, for rows 1 and 5 of rule 10.3; and beside the longest plan."""
     yield load(q()), ["load 2 3"]
     yield from into(range(11), 9, 21, 3, BEST)
     yield load(q(line=closed((1, 0)))), ["load 2 3"]
-    yield from into(range(15), 9, 26, 3, DETOUR)
-    # 34 steps: every relation and every joined result is sent
-    joined = [f"l{r} s{r - 1} j{r - 1} s{r % 8}" for r in range(1, 9)]
+    yield from into(range(13), 9, 23, 3, DETOUR)
+    # seven sends bring every relation and every joined result to the next site
+    around = [" ".join(f"s{(site - i) % 8}" for i in range(2, 9)) for site in range(8)]
+    joined = [f"l{r} {around[r - 1]} j{r - 1} {around[r % 8]}" for r in range(1, 9)]
     yield load(longest_plan()), ["load 9 45"]
-    yield from into((68, 69, 70), 360, 109_213, 960, steps("l0 s0 " + " ".join(joined)))
+    yield from into((LONGEST_PLAN - 1, LONGEST_PLAN, LONGEST_PLAN + 1), 360, 109_213, 960, steps(f"l0 {around[0]} " + " ".join(joined)))
     # with no route no output is too short
     yield load(WITHOUT_ROUTE), ["load 2 3"]
     for output in 0, 1, 9, 13, 4096:
@@ -113,8 +115,8 @@ def in_force():
     yield from beside(9, 9, solved(21, 3, BEST, 9))
     # a link leaves it
     yield link(1, 0, 0, 1, 1), ["link"]
-    yield from beside(9, 13, solved(26, 3, DETOUR, 13))
-    yield from beside(9, 12, refused(23))
+    yield from beside(9, 11, solved(23, 3, DETOUR, 11))
+    yield from beside(9, 10, refused(23))
 
 
 def script():

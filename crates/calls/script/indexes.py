@@ -1,7 +1,7 @@
 """Joins of relations with indexes, solved and checked. A join follows one index: of two that qualify the smaller is read."""
 from script.queries import SITES, chain, every, file, sections_from_rows
 from script.records import check, load_from_rows, steps
-from script.solves import found
+from script.solves import FREE, found
 
 BOTH, FIRST, SECOND, NEITHER = (1, 1), (1, 0), (0, 1), (0, 0)
 
@@ -20,10 +20,10 @@ AT_ONE_HOME = [
 ]
 
 
-def pair(sizes, index, homes=(0, 0), sites=SITES):
+def pair(sizes, index, homes=(0, 0), sites=SITES, lines=every(1, 1, 1)):
     """Q with other relations; the result has 3 bytes."""
     first, second = sizes
-    return file(sites, list(zip(homes, index)), chain(2), {1: first, 2: second, 3: 3}.get, every(1, 1, 1), 0)
+    return file(sites, list(zip(homes, index)), chain(2), {1: first, 2: second, 3: 3}.get, lines, 0)
 
 
 def at_one_home():
@@ -45,6 +45,9 @@ def sent():
     yield from found(pair((10, 4), BOTH, homes=(0, 1)), "load 2 3", 11, 3, "l0 l1 s0 j0")
     yield check(steps("l0 s1 l1 j0 s0")), ["check 20"]
     yield check(steps("l0 s2 l1 s2 j0 s0")), ["check 26"]
+    # nor does it at home again: 2 + 4 + 3 by its index, 2 + 100 + 4 + 3 without
+    yield from found(pair((100, 4), FIRST, lines=every(*FREE)), "load 2 3", 9, 3, "l0 l1 j0")
+    yield check(steps("l0 s1 s0 l1 j0")), ["check 109"]
 
 
 def three():

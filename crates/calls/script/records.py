@@ -3,6 +3,10 @@ import struct
 
 KINDS = {"l": 1, "s": 2, "j": 3}
 
+# A relation or a joined result is sent at most seven times where it goes by a route: 9 loads, 8 joins and 17 * 7 sends.
+MOST_STEPS = 136
+LONGEST_PLAN = 1 + 2 * MOST_STEPS
+
 
 def load(file):
     return struct.pack("<BH", 1, len(file)) + file

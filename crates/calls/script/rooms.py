@@ -73,7 +73,7 @@ def between():
         (room(2, 3, [(0, 2)]), ["refused 3"]),
         (room(2, 3, [(1, 1)]), ["refused 4"]),
     ]
-    detour = solve(9, 13), solved(26, 3, DETOUR, 13)
+    detour = solve(9, 11), solved(23, 3, DETOUR, 11)
     for call in (
         (load(q()), ["load 2 3"]),
         (solve(9, 9), solved(21, 3, BEST, 9)),

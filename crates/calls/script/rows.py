@@ -90,10 +90,10 @@ def refused():
         yield before, ["load 2 3"]
         for bytes_given, number in REFUSED:
             yield load_from_rows(bytes_given), [f"refused {number}"]
-        yield solve(9, 13), solved(26, 3, DETOUR, 13)
+        yield solve(9, 11), solved(23, 3, DETOUR, 11)
     # a file from rows is none for load: its count of Sizes would be 2 + 256 * 10
     yield load(Q), ["refused 2"]
-    yield solve(9, 13), solved(26, 3, DETOUR, 13)
+    yield solve(9, 11), solved(23, 3, DETOUR, 11)
 
 
 def before_and_after():
@@ -102,10 +102,10 @@ def before_and_after():
         yield again, ["load 2 3"]
         yield solve(9, 9), solved(21, 3, BEST, 9)
         yield check(BEST), ["check 21"]
-        yield check(DETOUR), ["check 26"]
+        yield check(DETOUR), ["check 23"]
         yield link(1, 0, 0, 1, 1), ["link"]
         yield check(BEST), ["refused 10 2"]
-        yield solve(9, 13), solved(26, 3, DETOUR, 13)
+        yield solve(9, 11), solved(23, 3, DETOUR, 11)
 
 
 def script():

@@ -1,6 +1,6 @@
 """Queries that are solved, and their plans checked. Each case states what load prints, the cost, the trials and the plan."""
 from script.queries import LONGEST, RELATIONS, SITES, alone, chain, closed, every, file, q, star
-from script.records import check, load, no_route, refused, solve, solved, steps
+from script.records import LONGEST_PLAN, check, load, no_route, refused, solve, solved, steps
 
 FREE = (1, 0, 0)
 
@@ -32,9 +32,9 @@ def pinned():
     yield from found(q(target=2), "load 2 3", 23, 3, "l0 l1 s0 j0 s2")
     yield from found(q(relations=[(0, 1), (1, 0)]), "load 2 3", 11, 3, "l0 l1 s0 j0")
     yield from found(q(sites=[(0, 2, 1)] + SITES[1:]), "load 2 3", 24, 3, "l0 s1 l1 j0 s0")
-    yield from found(q(line=closed((1, 0))), "load 2 3", 26, 3, "l0 s2 l1 s2 j0 s0")
+    yield from found(q(line=closed((1, 0))), "load 2 3", 23, 3, "l0 l1 s2 s0 j0")
     yield load(q(line=closed((1, 0), (2, 0)))), ["load 2 3"]
-    yield from beside(9, 69, no_route(3))
+    yield from beside(9, LONGEST_PLAN, no_route(3))
     yield from found(q(line=every(*FREE)), "load 2 3", 19, 3, "l0 l1 s0 j0")
     yield from found(alone(0), "load 1 1", 0, 0, "l0")
     yield from found(alone(1), "load 1 1", 3, 0, "l0 s1")

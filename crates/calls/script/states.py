@@ -1,12 +1,12 @@
 """The state from call to call: what is refused by it, what a call leaves, and the limits of what is lent."""
 from script.queries import Q_FROM_ROWS, chain, q
-from script.records import check, link, load, load_from_rows, no_route, refused, room, solve, solved, steps
+from script.records import LONGEST_PLAN, check, link, load, load_from_rows, no_route, refused, room, solve, solved, steps
 
 WIDEST = 2**64 - 1
 
 # The cheapest plan of Q, and of Q with the line from 1 to 0 closed.
 BEST = steps("l0 l1 s0 j0")
-DETOUR = steps("l0 s2 l1 s2 j0 s0")
+DETOUR = steps("l0 l1 s2 s0 j0")
 
 
 def script():
@@ -30,7 +30,7 @@ def script():
     yield load(q()), ["load 2 3"]
     yield solve(9, 9), solved(21, 3, BEST, 9)
     yield check(BEST), ["check 21"]
-    yield solve(4096, 69), solved(21, 3, BEST, 69)
+    yield solve(4096, LONGEST_PLAN), solved(21, 3, BEST, LONGEST_PLAN)
     yield load(q() + b"\0"), ["refused 5"]
     yield solve(9, 9), solved(21, 3, BEST, 9)
     yield solve(8, 9), refused(21)
@@ -47,17 +47,17 @@ def script():
     # solve and check follow the lines in force; more than can be lent is lent as all
     yield link(1, 0, 0, 1, 1), ["link"]
     yield solve(9, 9), refused(23)
-    yield solve(8192, 2**32 - 1), solved(26, 3, DETOUR, 4096)
+    yield solve(8192, 2**32 - 1), solved(23, 3, DETOUR, 4096)
     yield check(BEST), ["refused 10 2"]
-    yield check(DETOUR), ["check 26"]
+    yield check(DETOUR), ["check 23"]
     yield link(2, 0, 0, 0, 0), ["link"]
-    yield solve(5000, 69), no_route(3)
-    yield check(DETOUR), ["refused 10 5"]
+    yield solve(5000, LONGEST_PLAN), no_route(3)
+    yield check(DETOUR), ["refused 10 3"]
     yield link(1, 0, 1, 1, 1), ["link"]
     yield solve(2**32 - 1, 9), solved(21, 3, BEST, 9)
     yield check(BEST), ["check 21"]
-    yield check(DETOUR), ["refused 10 5"]
+    yield check(DETOUR), ["refused 10 3"]
     # a load replaces the query with its lines
     yield load(q()), ["load 2 3"]
-    yield check(DETOUR), ["check 26"]
+    yield check(DETOUR), ["check 23"]
     yield solve(9, 9), solved(21, 3, BEST, 9)
