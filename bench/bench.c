@@ -3,10 +3,10 @@
  *   bench                        solve and the whole call of each shape, in microseconds and as ratios
  *   bench loads                  the ordinary load and the load from row counts of each shape
  *   bench before                 the same beside the earlier archive: ten thousand a timing
- *   bench growth                 one line for each n and s: n s trials product-ns plain-ns
+ *   bench growth                 one line for each star: lines n s trials product-ns plain-ns
  *   bench compare COUNT SEED     so many random queries, every answer and every byte alike
  *   bench shapes                 the shapes, a line each; bench shapes loads those of loads
- *   bench repeat TIMES PLANNER WORK SHAPE N S     so many of one, for counting instructions
+ *   bench repeat TIMES PLANNER WORK SHAPE LINES N S     so many of one, for counting instructions
  */
 #define _POSIX_C_SOURCE 200809L
 #include <inttypes.h>
@@ -23,7 +23,7 @@
 /* plain.c compiled at -O3 -march=native under other names. */
 int fast_load(plain_query *q, const uint8_t *file, size_t length);
 int fast_load_rows(plain_query *q, const uint8_t *file, size_t length);
-plain_answer fast_solve(const plain_query *q, plain_lanes cells[512], uint8_t plan[69]);
+plain_answer fast_solve(const plain_query *q, plain_lanes cells[512], uint8_t plan[FANCHUKI_LONGEST_PLAN]);
 uint64_t fast_plan(const uint8_t *query, size_t query_length, uint8_t *output, size_t output_length);
 
 /* crates/timed: loads a query and solves it so many times; loads it so many times, the one way or the other, and solves it. */
@@ -39,7 +39,7 @@ uint64_t before_solves(const uint8_t *query, size_t query_length, uint64_t times
     {                                                                                     \
         static plain_lanes cells[512];                                                    \
         plain_query q;                                                                    \
-        uint8_t plan[69];                                                                 \
+        uint8_t plan[FANCHUKI_LONGEST_PLAN];                                              \
         uint64_t plans = 0;                                                               \
         if (c##_load(&q, query, query_length))                                            \
             return 0;                                                                     \
@@ -55,7 +55,7 @@ SOLVES_OF(fast)
     {                                                                                      \
         static plain_lanes cells[512];                                                     \
         plain_query q;                                                                     \
-        uint8_t plan[69];                                                                  \
+        uint8_t plan[FANCHUKI_LONGEST_PLAN];                                               \
         int refusal = 1;                                                                   \
         while (times-- > 0)                                                                \
             refusal = c##_##load(&q, query, query_length);                                 \
@@ -86,13 +86,22 @@ static const char *const works[WORKS] = {"solve", "load and solve", "load", "loa
 static const char *const words[WORKS] = {"solve", "call", "load", "rows"}; /* as run.sh names them */
 
 typedef struct {
-    const char *name;
+    const char *name, *lines;
     int relations, sites;
 } shape;
 
-/* The last is for loads alone: its relations are numbered against the order in which they join in. */
-static const shape shapes[] = {{"star", 9, 8}, {"chain", 9, 8}, {"tree", 9, 8}, {"star", 5, 4}, {"chain", 6, 5}, {"chain", 3, 2}, {"star8", 9, 8}};
-enum { LOADED_SHAPES = sizeof shapes / sizeof *shapes, SHAPES = LOADED_SHAPES - 1 };
+static const shape shapes[] = {
+    {"star", "random", 9, 8},  {"star", "metric", 9, 8},  {"star", "hubs", 9, 8},    {"chain", "random", 9, 8},
+    {"chain", "metric", 9, 8}, {"chain", "hubs", 9, 8},   {"tree", "random", 9, 8},  {"chain", "random", 6, 5},
+    {"chain", "metric", 6, 5}, {"star", "random", 5, 4},  {"star", "metric", 5, 4},  {"chain", "random", 3, 2},
+};
+
+/* Lines make no load slower. Relations of the last one are numbered against the order in which they join in. */
+static const shape loaded[] = {
+    {"star", "random", 9, 8},  {"chain", "random", 9, 8}, {"tree", "random", 9, 8},  {"star", "random", 5, 4},
+    {"chain", "random", 6, 5}, {"chain", "random", 3, 2}, {"star8", "random", 9, 8},
+};
+enum { SHAPES = sizeof shapes / sizeof *shapes, LOADED = sizeof loaded / sizeof *loaded };
 
 /* The file of each work; null for a work that is not measured. */
 typedef const query_file *files[WORKS];
@@ -180,14 +189,14 @@ static void shape_file(query_file *f, shape s)
     plain_query q;
     uint8_t plan[FANCHUKI_LONGEST_PLAN];
     uint64_t answer;
-    shaped_query(f, s.name, s.relations, s.sites);
+    shaped_query(f, s.name, s.lines, s.relations, s.sites);
     if (plain_load(&q, f->bytes, f->length) || plain_solve(&q, cells, plan).trials != shaped_trials(s.name, s.relations, s.sites))
         fail("plain counts other trials on a %s of %d at %d sites", s.name, s.relations, s.sites);
     for (int p = PLAIN; p <= FAST; p++)
         if (!alike(PRODUCT, p, f, FANCHUKI_LONGEST_PLAN, &answer))
-            fail("%s answers otherwise on a %s of %d at %d sites", planners[p].name, s.name, s.relations, s.sites);
+            fail("%s answers otherwise on a %s of %d at %d sites with %s lines", planners[p].name, s.name, s.relations, s.sites, s.lines);
     if (has(BEFORE, CALL) && !alike(PRODUCT, BEFORE, f, FANCHUKI_LONGEST_PLAN, &answer))
-        fprintf(stderr, "bench: the earlier revision answers otherwise here, so it does other work\n");
+        fprintf(stderr, "bench: the earlier revision answers otherwise on a %s of %d at %d sites with %s lines, so it does other work\n", s.name, s.relations, s.sites, s.lines);
 }
 
 /* 1 where the C makes one query of both files, and of the ordinary one the product's plan. */
@@ -222,7 +231,7 @@ static void shape_files(query_file *rows, query_file *sizes, shape s)
 
 static void print_row(shape s, const char *what)
 {
-    printf("%-6s %dx%d %-18s", s.name, s.relations, s.sites, what);
+    printf("%-6s %dx%d %-7s %-18s", s.name, s.relations, s.sites, s.lines, what);
 }
 
 static void print_beside_c(shape s, int w, figures best)
@@ -234,8 +243,8 @@ static void print_beside_c(shape s, int w, figures best)
 
 static void head_beside_c(void)
 {
-    printf("relations x sites                microseconds            ratio to C\n");
-    printf("%-29s product  C -O2  -O3 native   -O2   -O3 native\n", "");
+    printf("relations x sites, lines                 microseconds            ratio to C\n");
+    printf("%-37s product  C -O2  -O3 native   -O2   -O3 native\n", "");
 }
 
 static void beside_c(void)
@@ -255,15 +264,15 @@ static void beside_c(void)
 static void loads(void)
 {
     head_beside_c();
-    for (int i = 0; i < LOADED_SHAPES; i++) {
+    for (int i = 0; i < LOADED; i++) {
         query_file sizes, rows;
         figures best;
         double one[PLANNERS];
-        shape_files(&rows, &sizes, shapes[i]);
+        shape_files(&rows, &sizes, loaded[i]);
         measure((files){[LOAD] = &sizes, [LOAD_ROWS] = &rows}, 10, 10000, 5e6, best);
         for (int w = LOAD; w <= LOAD_ROWS; w++)
-            print_beside_c(shapes[i], w, best);
-        print_row(shapes[i], "rows to ordinary");
+            print_beside_c(loaded[i], w, best);
+        print_row(loaded[i], "rows to ordinary");
         for (int p = PRODUCT; p <= FAST; p++)
             one[p] = best[p][LOAD_ROWS] / best[p][LOAD];
         printf("%9.2f %7.2f %8.2f\n", one[PRODUCT], one[PLAIN], one[FAST]);
@@ -272,8 +281,8 @@ static void loads(void)
 
 static void beside_before(void)
 {
-    printf("relations x sites              microseconds                ratio to C -O2  to C -O3 native\n");
-    printf("%-29s  before   after   ratio    before   after   before   after\n", "");
+    printf("relations x sites, lines               microseconds                ratio to C -O2  to C -O3 native\n");
+    printf("%-37s  before   after   ratio    before   after   before   after\n", "");
     for (int i = 0; i < SHAPES; i++) {
         query_file f;
         figures best;
@@ -289,27 +298,45 @@ static void beside_before(void)
     }
 }
 
-/* Each n and s once a round, so that a slow spell of the machine is not one figure's alone. */
+/* A star that grows, with the best of its timings. */
+typedef struct {
+    shape s;
+    query_file file;
+    double least[PLANNERS];
+} grown;
+
+static int add_stars(grown *stars, int count, const char *lines, int fewest)
+{
+    for (int n = fewest; n <= 9; n++)
+        for (int s = 2; s <= 8; s++) {
+            grown *g = &stars[count++];
+            g->s = (shape){"star", lines, n, s};
+            shape_file(&g->file, g->s);
+            for (int p = PRODUCT; p <= PLAIN; p++)
+                g->least[p] = 1e18;
+        }
+    return count;
+}
+
+/* Each star once a round, so that a slow spell of the machine is not one figure's alone. */
 static void growth(void)
 {
-    static query_file files[10][9];
-    static double least[10][9][PLANNERS];
+    static grown stars[9 * 7];
+    int count = add_stars(stars, 0, "random", 3);
+    count = add_stars(stars, count, "metric", 9);
+    count = add_stars(stars, count, "hubs", 9);
     for (int round = 0; round < 50; round++)
-        for (int n = 3; n <= 9; n++)
-            for (int s = 2; s <= 8; s++) {
-                query_file *f = &files[n][s];
-                if (round == 0)
-                    shape_file(f, (shape){"star", n, s});
-                for (int p = PRODUCT; p <= PLAIN; p++) {
-                    uint64_t times = (uint64_t)100 << (9 - n);
-                    double one = timing(p, SOLVE, f, times) / (double)times;
-                    if (round == 0 || one < least[n][s][p])
-                        least[n][s][p] = one;
-                }
+        for (grown *g = stars; g < stars + count; g++)
+            for (int p = PRODUCT; p <= PLAIN; p++) {
+                uint64_t times = (uint64_t)100 << (9 - g->s.relations);
+                double one = timing(p, SOLVE, &g->file, times) / (double)times;
+                if (one < g->least[p])
+                    g->least[p] = one;
             }
-    for (int n = 3; n <= 9; n++)
-        for (int s = 2; s <= 8; s++)
-            printf("%d %d %" PRIu64 " %.0f %.0f\n", n, s, shaped_trials("star", n, s), least[n][s][PRODUCT], least[n][s][PLAIN]);
+    for (grown *g = stars; g < stars + count; g++) {
+        uint64_t trials = shaped_trials("star", g->s.relations, g->s.sites);
+        printf("%s %d %d %" PRIu64 " %.0f %.0f\n", g->s.lines, g->s.relations, g->s.sites, trials, g->least[PRODUCT], g->least[PLAIN]);
+    }
 }
 
 /* A random query from row counts: the C makes of it what it makes of the ordinary file, and each finds a plan where the product
@@ -330,7 +357,7 @@ static void compare_rows(uint64_t i, uint64_t from)
 /* Random queries, one in four damaged, one in eight with an output that may be too short. */
 static void compare(uint64_t count, uint64_t from)
 {
-    uint64_t answers[FANCHUKI_REFUSED + 256] = {0}, answer, plans = 0;
+    uint64_t answers[FANCHUKI_REFUSED + FANCHUKI_SHORT_OUTPUT + 1] = {0}, answer, plans = 0;
     seed(from);
     for (uint64_t i = 0; i < count; i++) {
         query_file f;
@@ -347,7 +374,7 @@ static void compare(uint64_t count, uint64_t from)
     for (int length = 1; length < FANCHUKI_REFUSED; length++)
         plans += answers[length];
     printf("%" PRIu64 " queries after seed %" PRIu64 ", all alike: %" PRIu64 " plans, %" PRIu64 " no route", count, from, plans, answers[0]);
-    for (int k = 1; k < 256; k++)
+    for (int k = FANCHUKI_CUT; k <= FANCHUKI_SHORT_OUTPUT; k++)
         if (answers[FANCHUKI_REFUSED + k])
             printf(", %" PRIu64 " refused %d", answers[FANCHUKI_REFUSED + k], k);
     printf("\n");
@@ -357,7 +384,7 @@ static void repeat(uint64_t times, const char *name, const char *work, shape s)
 {
     query_file f, rows, sizes;
     files of = {&f, &f, &sizes, &rows};
-    shaped_query(&f, s.name, s.relations, s.sites);
+    shaped_query(&f, s.name, s.lines, s.relations, s.sites);
     shaped_rows(&rows, &sizes, s.name, s.relations, s.sites);
     for (int p = 0; p < PLANNERS; p++)
         for (int w = 0; w < WORKS; w++)
@@ -365,10 +392,10 @@ static void repeat(uint64_t times, const char *name, const char *work, shape s)
                 run(p, w, of[w], times);
 }
 
-static void print_shapes(int count)
+static void print_shapes(const shape *s, int count)
 {
     for (int i = 0; i < count; i++)
-        printf("%s %d %d\n", shapes[i].name, shapes[i].relations, shapes[i].sites);
+        printf("%s %s %d %d\n", s[i].name, s[i].lines, s[i].relations, s[i].sites);
 }
 
 int main(int argc, char **argv)
@@ -387,11 +414,11 @@ int main(int argc, char **argv)
     else if (argc == 4 && strcmp(mode, "compare") == 0)
         compare(strtoull(argv[2], NULL, 10), strtoull(argv[3], NULL, 10));
     else if (argc == 2 && strcmp(mode, "shapes") == 0)
-        print_shapes(SHAPES);
+        print_shapes(shapes, SHAPES);
     else if (argc == 3 && strcmp(mode, "shapes") == 0 && strcmp(argv[2], "loads") == 0)
-        print_shapes(LOADED_SHAPES);
-    else if (argc == 8 && strcmp(mode, "repeat") == 0)
-        repeat(strtoull(argv[2], NULL, 10), argv[3], argv[4], (shape){argv[5], atoi(argv[6]), atoi(argv[7])});
+        print_shapes(loaded, LOADED);
+    else if (argc == 9 && strcmp(mode, "repeat") == 0)
+        repeat(strtoull(argv[2], NULL, 10), argv[3], argv[4], (shape){argv[5], argv[6], atoi(argv[7]), atoi(argv[8])});
     else
         return 2;
     return 0;

@@ -1,8 +1,9 @@
 """Draws docs/growth.svg and writes docs/GROWTH.md from target/bench/shapes.txt and loads.txt, what `bench` and `bench loads`
-printed, and the lines of `bench growth`: n s trials product-ns plain-ns."""
+printed, and what `bench growth` printed, a star each: lines n s trials product-ns plain-ns."""
 import sys
 
-rows = [[int(x) for x in line.split()] for line in sys.stdin]
+stars = [(lines, *map(int, figures)) for lines, *figures in map(str.split, sys.stdin)]
+rows = [figures for lines, *figures in stars if lines == "random"]
 WIDTH, HEIGHT, LEFT, BOTTOM, TOP, RIGHT = 640, 400, 70, 50, 20, 90
 most = max(r[3] for r in rows) / 1000
 shades = ["#c6dbef", "#9ecae1", "#6baed6", "#4292c6", "#2171b5", "#08519c", "#08306b"]
@@ -37,14 +38,24 @@ svg.append("</svg>")
 with open("docs/growth.svg", "w", encoding="utf8") as f:
     f.write("\n".join(svg) + "\n")
 
-table = {(r[0], r[1]): r for r in rows}
+table = {tuple(star[:3]): star[1:] for star in stars}
 
 
-def grid(cell):
-    lines = ["| n | " + " | ".join(f"s = {s}" for s in range(2, 9)) + " |", "|---|" + "---|" * 7]
-    for n in range(3, 10):
-        lines.append(f"| {n} | " + " | ".join(cell(table[n, s]) for s in range(2, 9)) + " |")
+def grid(named, heads, keys, cell):
+    """A row for each key, which is lines and n; a column for each number of sites."""
+    lines = [f"| {named} | " + " | ".join(f"s = {s}" for s in range(2, 9)) + " |", "|---|" + "---|" * 7]
+    for head, key in zip(heads, keys):
+        lines.append(f"| {head} | " + " | ".join(cell(table[key + (s,)]) for s in range(2, 9)) + " |")
     return lines
+
+
+def by_relations(cell):
+    return grid("n", range(3, 10), [("random", n) for n in range(3, 10)], cell)
+
+
+def by_lines(cell):
+    kinds = ["random", "metric", "hubs"]
+    return grid("lines", kinds, [(kind, 9) for kind in kinds], cell)
 
 
 def printed(name):
@@ -59,7 +70,7 @@ page = [
     "",
     "## Beside C",
     "",
-    "bench/plain.c is written to win. Its figures are doubles, exact for these whole numbers, because the lesser of two doubles is one instruction on every x86-64 and that of two 64-bit integers is not; a trial there is one sum and one lesser for all sites at once; lines and splits are made ready by its load. `make bench ARGS='compare COUNT SEED'` holds it to the product's answers on random queries.",
+    "bench/plain.c is written to win. Its figures are doubles, exact for these whole numbers, because the lesser of two doubles is one instruction on every x86-64 and that of two 64-bit integers is not; a trial there is one sum and one lesser for all sites at once; lines and splits are made ready by its load. Random lines have any amounts, and one in eight is closed; of metric ones no two in a row are ever cheaper than the direct one; of hubs those to and from site 0 have a tenth of the amounts of the others. `make bench ARGS='compare COUNT SEED'` holds it to the product's answers on random queries.",
     "",
     *printed("shapes"),
     "",
@@ -71,15 +82,19 @@ page = [
     "",
     "## Growth",
     "",
-    "One solve of a star of n relations at s sites: trials, and microseconds.",
+    "One solve of a star of n relations at s sites with random lines: trials, and microseconds.",
     "",
     "![microseconds a solve, by relations and sites](growth.svg)",
     "",
-    *grid(lambda r: f"{r[2]}, {r[3] / 1000:.2f} µs"),
+    *by_relations(lambda r: f"{r[2]}, {r[3] / 1000:.2f} µs"),
     "",
     "The same as a ratio to that C at -O2. A small query's time is mostly that of what does not depend on its size: the board and the table of sets, the state handed over by value, and the eight lanes in which what is sent is weighed, whatever the number of sites.",
     "",
-    *grid(lambda r: f"{r[3] / r[4]:.2f}"),
+    *by_relations(lambda r: f"{r[3] / r[4]:.2f}"),
+    "",
+    "A star of nine by its lines, in microseconds and as that ratio. A test once a query shows of metric lines that the direct line is always enough; on others every subquery's routes are weighed.",
+    "",
+    *by_lines(lambda r: f"{r[3] / 1000:.2f} µs, {r[3] / r[4]:.2f}"),
 ]
 with open("docs/GROWTH.md", "w", encoding="utf8") as f:
     f.write("\n".join(page) + "\n")

@@ -1,4 +1,4 @@
-/* Five ideas make it fast. It is compiled at -O2 and at -O3 -march=native.
+/* Six ideas make it fast. It is compiled at -O2 and at -O3 -march=native.
  *
  * A figure is a double. Every cost is a whole number far below 2^53, so sums, products and comparisons are exact. None is
  * infinity, and a sum with it stays infinity. The lesser of two is one instruction, which it is not for 64-bit integers.
@@ -8,6 +8,10 @@
  * subquery; lines go by the parcel, with a row for every site where a result is made, and a row is one product, two sums and
  * one lesser. Where both operands qualify neither cell has a read, and the smaller is to be read. They are then two relations,
  * and two have one join: such a set goes a way of its own, and all larger ones know nothing of it.
+ *
+ * A route is lines one after the other, so all sites send once, all at once, until no figure falls. Nearest site first would
+ * take fewer sums, but each would wait for the one before. Where no two lines are ever better than one, all send once and no
+ * more. The writer knows what each set costs where it goes, and works routes out only where the direct line does not cost that.
  *
  * The joins are a tree, hung from relation 0. A join is known by its lower relation, and the part beyond it is what hangs
  * from there, so a split is one mask.
@@ -29,9 +33,7 @@
  * 4: a loop of four lanes would then be unrolled before it is made vectors. */
 #define EACH_LANE(k) _Pragma("GCC unroll 3") for (int k = 0, lanes = sites <= 4 ? 4 : 8; k < lanes; k++)
 
-enum { CUT = 1, COUNT = 2, RANGE = 3, APART = 4, MORE = 5, SHORT = 23, REFUSED = 256 };
 enum { MOST_FIXED = 1000000, MOST_RATE = 1000, MOST_SIZE = 1000000000, MOST_ROWS = 1000000, PARCEL = 8 };
-enum { LOAD = 1, SEND = 2, JOIN = 3 };
 
 /* ---- The query file */
 
@@ -46,7 +48,7 @@ INLINED int field(reader *r, int width, int low, int high, int fault)
     if (r->refusal)
         return 0;
     if (r->end - r->at < width) {
-        r->refusal = CUT;
+        r->refusal = FANCHUKI_CUT;
         return 0;
     }
     uint32_t v = r->at[0];
@@ -60,11 +62,11 @@ INLINED int field(reader *r, int width, int low, int high, int fault)
     return (int)v;
 }
 
-INLINED int byte_below(reader *r, int limit) { return field(r, 1, 0, limit - 1, RANGE); }
+INLINED int byte_below(reader *r, int limit) { return field(r, 1, 0, limit - 1, FANCHUKI_OUT_OF_RANGE); }
 
-INLINED int amount(reader *r, int most) { return field(r, 4, 0, most, RANGE); }
+INLINED int amount(reader *r, int most) { return field(r, 4, 0, most, FANCHUKI_OUT_OF_RANGE); }
 
-INLINED void count(reader *r, int width, int n) { field(r, width, n, n, COUNT); }
+INLINED void count(reader *r, int width, int n) { field(r, width, n, n, FANCHUKI_WRONG_COUNT); }
 
 static void read_sites(reader *r, plain_query *q)
 {
@@ -99,7 +101,7 @@ static void hang(reader *r, plain_query *q, const uint16_t joined[9])
         }
     }
     if (n < q->relations)
-        r->refusal = APART;
+        r->refusal = FANCHUKI_NOT_REACHED;
     for (int i = 0; i < n; i++)
         q->below[order[i]] = 1u << order[i];
     while (--n > 0)
@@ -222,10 +224,10 @@ static __attribute__((noinline)) void read_rows(reader *r, plain_query *q)
     double rows[9], down[9], up[9];
     count(r, 1, q->relations);
     for (int i = 0; !r->refusal && i < q->relations; i++)
-        rows[i] = field(r, 4, 1, MOST_ROWS, RANGE);
+        rows[i] = field(r, 4, 1, MOST_ROWS, FANCHUKI_OUT_OF_RANGE);
     count(r, 1, q->relations - 1);
     for (int e = 0; !r->refusal && e < q->relations - 1; e++) {
-        double divisor = field(r, 4, 1, MOST_ROWS, RANGE);
+        double divisor = field(r, 4, 1, MOST_ROWS, FANCHUKI_OUT_OF_RANGE);
         int low = q->lower[e];
         down[low] = rows[low] / divisor;
         up[low] = rows[q->above[low]] / divisor;
@@ -241,8 +243,9 @@ static void read_lines(reader *r, plain_query *q)
         for (int b = 0; b < q->sites; b++)
             if (a != b) {
                 int open = byte_below(r, 2), line = amount(r, MOST_FIXED);
+                int each = amount(r, MOST_RATE);
                 fixed.at[b] = open ? line : NONE;
-                rate.at[b] = amount(r, MOST_RATE);
+                rate.at[b] = open ? each : MOST_RATE; /* so that no way over a closed line has a lower one */
             }
         q->line_fixed[a] = fixed;
         q->line_rate[a] = rate;
@@ -265,9 +268,9 @@ static void price_pairs(plain_query *q)
 static int load(plain_query *q, const uint8_t *file, size_t length, int from_rows)
 {
     reader r = {file, file + length, 0};
-    q->sites = field(&r, 1, 1, 8, COUNT);
+    q->sites = field(&r, 1, 1, 8, FANCHUKI_WRONG_COUNT);
     read_sites(&r, q);
-    q->relations = field(&r, 1, 1, 9, COUNT);
+    q->relations = field(&r, 1, 1, 9, FANCHUKI_WRONG_COUNT);
     read_relations(&r, q);
     count(&r, 1, q->relations - 1);
     read_joins(&r, q);
@@ -284,7 +287,7 @@ static int load(plain_query *q, const uint8_t *file, size_t length, int from_row
     q->target = byte_below(&r, q->sites);
     if (!r.refusal)
         price_pairs(q);
-    return r.refusal || r.at == r.end ? r.refusal : MORE;
+    return r.refusal || r.at == r.end ? r.refusal : FANCHUKI_BYTES_FOLLOW;
 }
 
 int plain_load(plain_query *q, const uint8_t *file, size_t length)
@@ -301,16 +304,6 @@ int plain_load_rows(plain_query *q, const uint8_t *file, size_t length)
 
 /* Those that a size starts: none for 0 bytes. */
 INLINED double parcels(uint32_t size) { return (int)((size + PARCEL - 1) / PARCEL); }
-
-/* A bare relation as an operand at each site. */
-INLINED void fill_bare(const plain_query *q, int r, plain_lanes *cell, int sites)
-{
-    const plain_lanes *fixed = &q->line_fixed[q->home[r]], *rate = &q->line_rate[q->home[r]];
-    double size = (int)q->size[1u << r], sent = parcels(q->size[1u << r]);
-    EACH_LANE(t) cell->at[t] = fixed->at[t] + rate->at[t] * sent + q->join_rate.at[t] * size;
-    if (q->indexed[r])
-        cell->at[q->home[r]] = 0;
-}
 
 /* The least over the joins inside a set of both parts together, at each site. Answers how many joins were tried. */
 INLINED int try_joins(const plain_query *q, const plain_lanes *cells, uint32_t set, plain_lanes *least, int sites)
@@ -335,45 +328,117 @@ INLINED void try_pair(const plain_query *q, const plain_lanes *cells, uint32_t s
     EACH_LANE(k) parts->at[k] = a->at[k] + b->at[k] + read->at[k];
 }
 
-/* A subquery joined at any site as an operand at each site. Even and odd sites have a least each, and neither waits. */
-INLINED void deliver(const plain_query *q, const plain_lanes *parts, uint32_t size, plain_lanes *cell, int sites)
+/* What stands at some sites for a figure each, sent over one line at most: the lines have a price each. Even and odd sites have
+ * a least each, and neither waits. */
+INLINED void send_once(const plain_lanes *price, const plain_lanes *from, plain_lanes *row, int sites)
 {
-    plain_lanes read, joined, least[2];
-    double bytes = (int)size, sent = parcels(size);
-    EACH_LANE(k) read.at[k] = q->join_rate.at[k] * bytes;
-    EACH_LANE(k) joined.at[k] = q->join_fixed.at[k] + read.at[k] + parts->at[k];
+    plain_lanes least[2];
 #pragma GCC unroll 8
     for (int k = 0; k < sites; k++) {
-        const plain_lanes *fixed = &q->line_fixed[k], *rate = &q->line_rate[k];
         plain_lanes *low = &least[k % 2];
-        double here = joined.at[k];
+        double here = from->at[k];
         if (k < 2)
-            EACH_LANE(t) low->at[t] = rate->at[t] * sent + fixed->at[t] + here;
+            EACH_LANE(t) low->at[t] = price[k].at[t] + here;
         else
-            EACH_LANE(t) low->at[t] = lesser(low->at[t], rate->at[t] * sent + fixed->at[t] + here);
+            EACH_LANE(t) low->at[t] = lesser(low->at[t], price[k].at[t] + here);
     }
-    EACH_LANE(t) cell->at[t] = lesser(least[0].at[t], least[sites > 1].at[t]) + read.at[t];
+    EACH_LANE(t) row->at[t] = lesser(least[0].at[t], least[sites > 1].at[t]);
 }
 
-/* Every cell but that of all relations, of which one site is asked alone. Answers how many joins were tried, with its own. */
-INLINED int fill(const plain_query *q, plain_lanes *cells, int sites)
+/* Once more until no figure falls. */
+INLINED void send_on(const plain_lanes *price, plain_lanes *row, int sites)
 {
-    int tried = q->relations - 1;
-    for (int i = 0; i < q->subqueries - 1; i++) {
+    plain_lanes before;
+    do {
+        EACH_LANE(t) before.at[t] = row->at[t];
+        send_once(price, &before, row, sites);
+    } while (memcmp(row, &before, (size_t)sites * sizeof(double)) != 0);
+}
+
+INLINED void price_line(const plain_query *q, int from, double sent, plain_lanes *price, int sites)
+{
+    EACH_LANE(t) price->at[t] = q->line_rate[from].at[t] * sent + q->line_fixed[from].at[t];
+}
+
+INLINED void price_lines(const plain_query *q, double sent, plain_lanes *price, int sites)
+{
+#pragma GCC unroll 8
+    for (int k = 0; k < sites; k++)
+        price_line(q, k, sent, &price[k], sites);
+}
+
+/* A bare relation as an operand at each site. */
+INLINED void fill_bare(const plain_query *q, int r, plain_lanes *cell, int sites, int direct)
+{
+    plain_lanes price[8], row;
+    double size = (int)q->size[1u << r], sent = parcels(q->size[1u << r]);
+    price_line(q, q->home[r], sent, &row, sites);
+    if (!direct) {
+        price_lines(q, sent, price, sites);
+        send_on(price, &row, sites);
+    }
+    EACH_LANE(t) cell->at[t] = row.at[t] + q->join_rate.at[t] * size;
+    if (q->indexed[r])
+        cell->at[q->home[r]] = 0;
+}
+
+/* A subquery joined at any site as an operand at each site. */
+INLINED void fill_joined(const plain_query *q, const plain_lanes *parts, uint32_t size, plain_lanes *cell, int sites, int direct)
+{
+    plain_lanes price[8], read, joined, row;
+    double bytes = (int)size;
+    EACH_LANE(k) read.at[k] = q->join_rate.at[k] * bytes;
+    EACH_LANE(k) joined.at[k] = q->join_fixed.at[k] + read.at[k] + parts->at[k];
+    price_lines(q, parcels(size), price, sites);
+    send_once(price, &joined, &row, sites);
+    if (!direct)
+        send_on(price, &row, sites);
+    EACH_LANE(t) cell->at[t] = row.at[t] + read.at[t];
+}
+
+/* Every cell. Answers how many joins were tried. */
+INLINED int fill_sets(const plain_query *q, plain_lanes *cells, int sites, int direct)
+{
+    int tried = 0;
+    for (int i = 0; i < q->subqueries; i++) {
         uint32_t set = q->subquery[i], inner = q->inner[set];
         plain_lanes parts;
         if (inner & (inner - 1)) {
             tried += try_joins(q, cells, set, &parts, sites);
-            deliver(q, &parts, q->size[set], &cells[set], sites);
+            fill_joined(q, &parts, q->size[set], &cells[set], sites, direct);
         } else if (inner) {
             tried++;
             try_pair(q, cells, set, &parts, sites);
-            deliver(q, &parts, q->size[set], &cells[set], sites);
+            fill_joined(q, &parts, q->size[set], &cells[set], sites, direct);
         } else {
-            fill_bare(q, __builtin_ctz(set), &cells[set], sites);
+            fill_bare(q, __builtin_ctz(set), &cells[set], sites, direct);
         }
     }
     return tried;
+}
+
+/* Whether two lines in a row have neither a lower fixed amount nor a lower rate than the direct line, wherever they lead. Then
+ * no number of them has. */
+INLINED int no_detour_pays(const plain_query *q, int sites)
+{
+    size_t compared = (size_t)sites * sizeof(double);
+    for (int a = 0; a < sites; a++) {
+        plain_lanes row;
+        send_once(q->line_fixed, &q->line_fixed[a], &row, sites);
+        if (memcmp(&row, &q->line_fixed[a], compared) != 0)
+            return 0;
+        send_once(q->line_rate, &q->line_rate[a], &row, sites);
+        if (memcmp(&row, &q->line_rate[a], compared) != 0)
+            return 0;
+    }
+    return 1;
+}
+
+INLINED int fill(const plain_query *q, plain_lanes *cells, int sites)
+{
+    if (sites <= 2 || no_detour_pays(q, sites))
+        return fill_sets(q, cells, sites, 1);
+    return fill_sets(q, cells, sites, 0);
 }
 
 /* The same, compiled for each number of sites. */
@@ -393,32 +458,69 @@ static int fill_all(const plain_query *q, plain_lanes *cells)
 
 /* ---- The plan */
 
+/* Of the direct line; 0 where it stays. */
+INLINED double line_price(const plain_query *q, double sent, int from, int to)
+{
+    return q->line_rate[from].at[to] * sent + q->line_fixed[from].at[to];
+}
+
+static plain_lanes lines_to(const plain_query *q, double sent, int to)
+{
+    plain_lanes row;
+    for (int k = 0; k < q->sites; k++)
+        row.at[k] = line_price(q, sent, k, to);
+    return row;
+}
+
+/* From each site, over one line more than the row has. */
+static plain_lanes one_line_more(const plain_query *q, double sent, const plain_lanes *row)
+{
+    plain_lanes more;
+    for (int k = 0; k < q->sites; k++) {
+        more.at[k] = NONE;
+        for (int m = 0; m < q->sites; m++)
+            more.at[k] = lesser(more.at[k], line_price(q, sent, k, m) + row->at[m]);
+    }
+    return more;
+}
+
+/* The lowest site from which what is made there goes to another for what is due. Routes are worked out only where the direct
+ * line from the first site that comes into question is none of them. */
+static int lowest_site(const plain_query *q, double sent, const plain_lanes *here, int to, double due)
+{
+    int k = 0;
+    while (here->at[k] > due)
+        k++;
+    if (here->at[k] + line_price(q, sent, k, to) == due)
+        return k;
+    plain_lanes row = lines_to(q, sent, to);
+    for (int lines = 2; lines < q->sites; lines++)
+        row = one_line_more(q, sent, &row);
+    while (here->at[k] + row.at[k] != due)
+        k++;
+    return k;
+}
+
 typedef struct {
-    double cost, parts; /* Delivered where it is to go, and both parts together where it is made */
-    int site;           /* where it is made */
+    double carriage, parts; /* from where it is made to where it is to go, and both parts together where it is made */
+    int site;               /* where it is made */
 } choice;
 
-/* The cheapest way to have a set at a site: made at the lowest site on a tie. */
-static choice cheapest(const plain_query *q, const plain_lanes *cells, uint32_t set, int to)
+/* How a set comes to a site for what is due there: made at the lowest site on a tie. */
+static choice cheapest(const plain_query *q, const plain_lanes *cells, uint32_t set, int to, double due)
 {
-    double size = (int)q->size[set], sent = parcels(q->size[set]);
-    if (q->inner[set] == 0) {
-        int home = q->home[__builtin_ctz(set)];
-        return (choice){q->line_rate[home].at[to] * sent + q->line_fixed[home].at[to], 0, home};
-    }
-    plain_lanes parts;
-    choice best = {NONE, 0, 0};
+    if (q->inner[set] == 0)
+        return (choice){due, 0, q->home[__builtin_ctz(set)]};
+    plain_lanes parts, here;
+    double size = (int)q->size[set];
     if (q->inner[set] & (q->inner[set] - 1))
         try_joins(q, cells, set, &parts, 8);
     else
         try_pair(q, cells, set, &parts, 8);
-    for (int k = 0; k < q->sites; k++) {
-        double here = q->join_rate.at[k] * size + q->join_fixed.at[k] + parts.at[k];
-        double cost = q->line_rate[k].at[to] * sent + q->line_fixed[k].at[to] + here;
-        if (cost < best.cost)
-            best = (choice){cost, parts.at[k], k};
-    }
-    return best;
+    for (int k = 0; k < q->sites; k++)
+        here.at[k] = q->join_rate.at[k] * size + q->join_fixed.at[k] + parts.at[k];
+    int made = lowest_site(q, parcels(q->size[set]), &here, to, due);
+    return (choice){due - here.at[made], parts.at[made], made};
 }
 
 /* The join behind a choice: the only one, or else the lowest on a tie. */
@@ -440,32 +542,78 @@ static uint8_t *step(uint8_t *out, int kind, int argument)
     return out + 2;
 }
 
-/* The steps that bring a set to a site, made as was chosen. Answers where they end. */
-static uint8_t *write_steps(const plain_query *q, const plain_lanes *cells, uint32_t set, int to, choice made, uint8_t *out)
+/* The lowest next site by which a way costs so much, the row having what it costs from there; -1 where there is none. */
+static int next_site(const plain_query *q, double sent, int from, const plain_lanes *row, double cost)
 {
+    for (int m = 0; m < q->sites; m++)
+        if (line_price(q, sent, from, m) + row->at[m] == cost)
+            return m;
+    return -1;
+}
+
+/* A row for each line more, until there is a way that costs so much: it has the fewest sends. */
+static uint8_t *write_detour(const plain_query *q, double sent, int from, int to, double cost, uint8_t *out)
+{
+    plain_lanes rows[8];
+    int more = 0, next;
+    rows[0] = lines_to(q, sent, to);
+    while ((next = next_site(q, sent, from, &rows[more], cost)) < 0) {
+        rows[more + 1] = one_line_more(q, sent, &rows[more]);
+        more++;
+    }
+    for (; more > 0; more--) {
+        out = step(out, FANCHUKI_SEND, next);
+        next = next_site(q, sent, next, &rows[more - 1], rows[more].at[next]);
+    }
+    out = step(out, FANCHUKI_SEND, next);
+    return step(out, FANCHUKI_SEND, to);
+}
+
+/* The sends of the route that costs so much. */
+static uint8_t *write_sends(const plain_query *q, double sent, int from, int to, double cost, uint8_t *out)
+{
+    if (from == to)
+        return out;
+    if (line_price(q, sent, from, to) == cost)
+        return step(out, FANCHUKI_SEND, to);
+    return write_detour(q, sent, from, to, cost, out);
+}
+
+/* The cell without its read. */
+INLINED double delivered(const plain_query *q, const plain_lanes *cells, uint32_t set, int at)
+{
+    if (q->inner[set] == 0 && q->home[__builtin_ctz(set)] == at)
+        return 0;
+    return cells[set].at[at] - q->join_rate.at[at] * (int)q->size[set];
+}
+
+/* The steps that bring a set to a site. Answers where they end. */
+static uint8_t *write_steps(const plain_query *q, const plain_lanes *cells, uint32_t set, int to, uint8_t *out)
+{
+    choice made = cheapest(q, cells, set, to, delivered(q, cells, set, to));
     if (q->inner[set] == 0) {
-        out = step(out, LOAD, __builtin_ctz(set));
+        out = step(out, FANCHUKI_LOAD, __builtin_ctz(set));
     } else {
         int e = join_of(q, cells, set, made);
         uint32_t one = set & q->below[q->lower[e]];
         if (!(one >> q->first[e] & 1))
             one ^= set;
-        out = write_steps(q, cells, one, made.site, cheapest(q, cells, one, made.site), out);
-        out = write_steps(q, cells, set ^ one, made.site, cheapest(q, cells, set ^ one, made.site), out);
-        out = step(out, JOIN, e);
+        out = write_steps(q, cells, one, made.site, out);
+        out = write_steps(q, cells, set ^ one, made.site, out);
+        out = step(out, FANCHUKI_JOIN, e);
     }
-    return made.site == to ? out : step(out, SEND, to);
+    return write_sends(q, parcels(q->size[set]), made.site, to, made.carriage, out);
 }
 
-plain_answer plain_solve(const plain_query *q, plain_lanes cells[512], uint8_t plan[69])
+plain_answer plain_solve(const plain_query *q, plain_lanes cells[512], uint8_t plan[FANCHUKI_LONGEST_PLAN])
 {
     uint32_t all = (1u << q->relations) - 1;
     int tried = fill_all(q, cells);
     plain_answer answer = {PLAIN_NONE, (uint64_t)(tried * q->sites), 0};
-    choice made = cheapest(q, cells, all, q->target);
-    if (made.cost < NONE) {
-        answer.cost = (uint64_t)made.cost;
-        answer.length = (size_t)(write_steps(q, cells, all, q->target, made, plan + 1) - plan);
+    double cost = delivered(q, cells, all, q->target);
+    if (cost < NONE) {
+        answer.cost = (uint64_t)cost;
+        answer.length = (size_t)(write_steps(q, cells, all, q->target, plan + 1) - plan);
         plan[0] = (uint8_t)(answer.length / 2);
     }
     return answer;
@@ -475,15 +623,15 @@ uint64_t plain_plan(const uint8_t *query, size_t query_length, uint8_t *output, 
 {
     plain_query q;
     plain_lanes cells[512];
-    uint8_t plan[69];
+    uint8_t plan[FANCHUKI_LONGEST_PLAN];
     int refusal = plain_load(&q, query, query_length);
     if (refusal)
-        return REFUSED + (uint64_t)refusal;
+        return FANCHUKI_REFUSED + (uint64_t)refusal;
     plain_answer a = plain_solve(&q, cells, plan);
     if (a.cost == PLAIN_NONE)
         return 0;
     if (output_length < a.length)
-        return REFUSED + SHORT;
+        return FANCHUKI_REFUSED + FANCHUKI_SHORT_OUTPUT;
     memcpy(output, plan, a.length);
     return a.length;
 }

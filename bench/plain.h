@@ -5,6 +5,8 @@
 #include <stddef.h>
 #include <stdint.h>
 
+#include "fanchuki.h"
+
 /* A figure for each site, always eight; nobody looks at those of sites that the query does not have. */
 typedef struct {
     _Alignas(64) double at[8];
@@ -35,7 +37,7 @@ typedef struct {
 /* 0, or the refusal's number. */
 int plain_load(plain_query *q, const uint8_t *file, size_t length);
 int plain_load_rows(plain_query *q, const uint8_t *file, size_t length); /* of a file with row counts and divisors */
-plain_answer plain_solve(const plain_query *q, plain_lanes cells[512], uint8_t plan[69]);
+plain_answer plain_solve(const plain_query *q, plain_lanes cells[512], uint8_t plan[FANCHUKI_LONGEST_PLAN]);
 uint64_t plain_plan(const uint8_t *query, size_t query_length, uint8_t *output, size_t output_length);
 
 #endif

@@ -1,8 +1,9 @@
 #include "queries.h"
 
+#include <stdlib.h>
 #include <string.h>
 
-enum { PARCEL = 8, MOST_SIZE = 1000000000, MOST_ROWS = 1000000 };
+enum { PARCEL = 8, MOST_SIZE = 1000000000, MOST_ROWS = 1000000, MOST_FIXED = 1000000, MOST_RATE = 1000 };
 
 static uint64_t state;
 
@@ -25,8 +26,13 @@ typedef struct {
 /* What stands between joins and lines: sizes that are drawn, or row counts and divisors, or the sizes that these come to. */
 enum { DRAWN, ROWS, WORKED };
 
+/* Each line drawn by itself; by the distance of its sites; cheap at site 0; cheap to the next site; or open to it alone. */
+enum { RANDOM, METRIC, HUBS, ROUND, RING, LINES };
+static const char *const line_names[LINES] = {"random", "metric", "hubs", "round", "ring"};
+
 typedef struct {
     int sites, relations, first[8], second[8], form;
+    int lines, place[8]; /* of each site: how far along it is, or which one in the ring */
     int homes;          /* the relations stand at the first so many sites */
     uint64_t unindexed; /* one relation in so many has no index */
     uint64_t rows[9], divisors[8];
@@ -43,15 +49,15 @@ static void put(query_file *f, int width, uint64_t v)
     }
 }
 
-static void put_amount(query_file *f, amounts a)
+static uint64_t draw(amounts a)
 {
-    put(f, 4, a.least + below(a.span));
+    return a.least + below(a.span);
 }
 
 /* As many bytes as were drawn; or as many full parcels, a byte less or a byte more. */
 static void put_size(query_file *f, const draft *d)
 {
-    uint64_t size = d->size.least + below(d->size.span);
+    uint64_t size = draw(d->size);
     if (d->in_parcels) {
         size = PARCEL * size + below(3);
         size -= size > 0;
@@ -85,11 +91,48 @@ static uint64_t worked(const draft *d, unsigned set)
     return size;
 }
 
-static void put_terms(query_file *f, const draft *d, uint64_t one_in)
+/* Of a site or of a line. */
+typedef struct {
+    uint64_t flag, fixed, rate;
+} terms;
+
+static terms draw_terms(const draft *d, uint64_t one_in)
 {
-    put(f, 1, one_in == 0 || below(one_in) != 0);
-    put_amount(f, d->fixed);
-    put_amount(f, d->rate);
+    terms t;
+    t.flag = one_in == 0 || below(one_in) != 0;
+    t.fixed = draw(d->fixed);
+    t.rate = draw(d->rate);
+    return t;
+}
+
+static terms line_terms(const draft *d, int a, int b)
+{
+    terms t = draw_terms(d, d->closed), cheap = {1, t.fixed / 10, t.rate / 10};
+    int next = d->place[b] == (d->place[a] + 1) % d->sites;
+    uint64_t apart = 1 + (uint64_t)abs(d->place[a] - d->place[b]);
+    switch (d->lines) {
+    case METRIC: return (terms){1, 1000 * apart, apart};
+    case HUBS: return a == 0 || b == 0 ? cheap : t;
+    case ROUND: return next ? cheap : t;
+    case RING: return (terms){(uint64_t)next, t.fixed, t.rate};
+    default: return t;
+    }
+}
+
+static void put_terms(query_file *f, terms t)
+{
+    put(f, 1, t.flag);
+    put(f, 4, t.fixed);
+    put(f, 4, t.rate);
+}
+
+static void put_lines(query_file *f, const draft *d)
+{
+    put(f, 1, (uint64_t)(d->sites * (d->sites - 1)));
+    for (int a = 0; a < d->sites; a++)
+        for (int b = 0; b < d->sites; b++)
+            if (a != b)
+                put_terms(f, line_terms(d, a, b));
 }
 
 /* The relations of a set, where the set is connected: a tree's part with one join less than relations. Else 0. */
@@ -128,7 +171,7 @@ static void write_query(query_file *f, const draft *d)
     f->length = 0;
     put(f, 1, (uint64_t)d->sites);
     for (int k = 0; k < d->sites; k++)
-        put_terms(f, d, d->barred);
+        put_terms(f, draw_terms(d, d->barred));
     put(f, 1, (uint64_t)d->relations);
     for (int r = 0; r < d->relations; r++) {
         put(f, 1, below((uint64_t)d->homes));
@@ -145,9 +188,7 @@ static void write_query(query_file *f, const draft *d)
     } else {
         put_sizes(f, d);
     }
-    put(f, 1, (uint64_t)(d->sites * (d->sites - 1)));
-    for (int i = 0; i < d->sites * (d->sites - 1); i++)
-        put_terms(f, d, d->closed);
+    put_lines(f, d);
     put(f, 1, 1);
     put(f, 1, below((uint64_t)d->sites));
 }
@@ -181,17 +222,38 @@ static void draw_joins(draft *d, const char *shape)
     }
 }
 
+static void swap(int *a, int *b)
+{
+    int was = *a;
+    *a = *b;
+    *b = was;
+}
+
+/* Along a scale, or round in any order. Nothing is drawn where nothing is placed. */
+static void place_sites(draft *d)
+{
+    for (int k = 0; d->lines == METRIC && k < d->sites; k++)
+        d->place[k] = (int)below(MOST_RATE);
+    for (int k = 0; d->lines > HUBS && k < d->sites; k++) {
+        d->place[k] = k;
+        swap(&d->place[k], &d->place[below((uint64_t)k + 1)]);
+    }
+}
+
 static draft shaped(const char *shape, int relations, int sites)
 {
-    draft d = {.sites = sites, .homes = sites, .unindexed = 2, .relations = relations, .fixed = {0, 1000000}, .rate = {0, 1000}, .size = {0, 1000000}, .closed = 8};
+    draft d = {.sites = sites, .homes = sites, .unindexed = 2, .relations = relations, .fixed = {0, MOST_FIXED}, .rate = {0, MOST_RATE}, .size = {0, 1000000}, .closed = 8};
     seed(5); /* a tree that branches */
     draw_joins(&d, shape);
     return d;
 }
 
-void shaped_query(query_file *f, const char *shape, int relations, int sites)
+void shaped_query(query_file *f, const char *shape, const char *lines, int relations, int sites)
 {
     draft d = shaped(shape, relations, sites);
+    while (strcmp(line_names[d.lines], lines) != 0)
+        d.lines++;
+    place_sites(&d);
     write_query(f, &d);
 }
 
@@ -210,13 +272,6 @@ uint64_t shaped_trials(const char *shape, int relations, int sites)
         if (connected(&d, set))
             trials += connected(&d, set) - 1;
     return (uint64_t)(trials * sites);
-}
-
-static void swap(int *a, int *b)
-{
-    int was = *a;
-    *a = *b;
-    *b = was;
 }
 
 /* The same tree with its relations, its joins and their ends in any order. */
@@ -255,12 +310,14 @@ static draft random_draft(void)
     draft d = {.sites = 1 + (int)below(8), .relations = 1 + (int)below(9), .barred = below(12), .closed = below(12)};
     d.homes = d.sites > 2 && below(2) ? 1 + (int)below(2) : d.sites;
     d.unindexed = 2 + 2 * below(2);
-    d.fixed = any_amounts(1000000);
-    d.rate = any_amounts(1000);
+    d.fixed = any_amounts(MOST_FIXED);
+    d.rate = any_amounts(MOST_RATE);
     d.in_parcels = below(2);
     d.size = any_amounts(d.in_parcels ? MOST_SIZE / PARCEL : MOST_SIZE);
     draw_joins(&d, shapes[below(4)]);
     mix(&d);
+    d.lines = below(2) ? RANDOM : (int)below(LINES);
+    place_sites(&d);
     return d;
 }
 

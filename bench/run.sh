@@ -20,8 +20,8 @@ archives() { # FOLDER
 }
 
 build() { # further words for the linker
-    gcc -O2 -Wall -Wextra -Ibench -c bench/plain.c -o "$out/plain.o"
-    gcc -O3 -march=native -Ibench -Dplain_load=fast_load -Dplain_load_rows=fast_load_rows -Dplain_solve=fast_solve -Dplain_plan=fast_plan -c bench/plain.c -o "$out/fast.o"
+    gcc -O2 -Wall -Wextra -Iinclude -Ibench -c bench/plain.c -o "$out/plain.o"
+    gcc -O3 -march=native -Iinclude -Ibench -Dplain_load=fast_load -Dplain_load_rows=fast_load_rows -Dplain_solve=fast_solve -Dplain_plan=fast_plan -c bench/plain.c -o "$out/fast.o"
     gcc -O2 -Wall -Wextra -Iinclude -Ibench bench/bench.c bench/queries.c "$out/plain.o" "$out/fast.o" -Ltarget/staticlib -ltimed -lfanchuki "$@" -o "$bench"
 }
 
@@ -46,7 +46,7 @@ build_before() { # REV
     build -Wl,--whole-archive "$@" -Wl,--no-whole-archive
 }
 
-count() { # TIMES PLANNER WORK SHAPE N S: the instructions of so many
+count() { # TIMES PLANNER WORK SHAPE LINES N S: the instructions of so many
     local inside
     case $3 in
     solve) inside=$2_solves ;;
@@ -63,16 +63,16 @@ counts() { # SHAPES WORKS TIMES PLANNER..
     local shapes=$1 works=$2 times=$3
     shift 3
     command -v valgrind >/dev/null || return 0
-    printf '\n%-29s' "instructions"
+    printf '\n%-37s' "instructions"
     printf '%10s' "$@" ratio
     printf '\n'
-    "$bench" $shapes | while read -r shape n s; do
+    "$bench" $shapes | while read -r shape lines n s; do
         for work in $works; do
-            for planner in "$@"; do count $times "$planner" $work "$shape" "$n" "$s"; done |
-                awk -v times=$times -v row="$(printf '%-6s %dx%d %s' "$shape" "$n" "$s" "$work")" '
+            for planner in "$@"; do count $times "$planner" $work "$shape" "$lines" "$n" "$s"; done |
+                awk -v times=$times -v row="$(printf '%-6s %dx%d %-7s %s' "$shape" "$n" "$s" "$lines" "$work")" '
                     { one[NR] = $1 / times }
                     END {
-                        printf "%-29s", row
+                        printf "%-37s", row
                         for (i = 1; i <= NR; i++) printf "%10d", one[i]
                         printf "%10s\n", one[2] ? sprintf("%.3f", one[1] / one[2]) : "-"
                     }'
