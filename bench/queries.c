@@ -33,8 +33,8 @@ static const char *const line_names[LINES] = {"random", "metric", "hubs", "round
 typedef struct {
     int sites, relations, first[8], second[8], form;
     int lines, place[8]; /* of each site: how far along it is, or which one in the ring */
-    int homes;          /* the relations stand at the first so many sites */
-    uint64_t unindexed; /* one relation in so many has no index */
+    int homes;           /* the relations stand at the first so many sites */
+    uint64_t unindexed;  /* one relation in so many has no index */
     uint64_t rows[9], divisors[8];
     amounts fixed, rate, size;
     uint64_t in_parcels;     /* whether a size is drawn as a number of parcels */
@@ -251,7 +251,7 @@ static draft shaped(const char *shape, int relations, int sites)
 void shaped_query(query_file *f, const char *shape, const char *lines, int relations, int sites)
 {
     draft d = shaped(shape, relations, sites);
-    while (strcmp(line_names[d.lines], lines) != 0)
+    while (d.lines < LINES && strcmp(line_names[d.lines], lines) != 0)
         d.lines++;
     place_sites(&d);
     write_query(f, &d);
