@@ -9,11 +9,13 @@ it is, or a memcpy; copies side by side, from places side by side, are one. One 
 alone or with something beside it; all but two words on the stack: 16 bytes of which nothing smaller than a word is
 reached, and to which no address leads but that of the first word, and that handed to a call. Such are a slice, and a
 register that is put away. Arrays are read by bytes, or handed on by the address of their count, 8 bytes before them.
-64 bytes are a row of lanes. More is the query or another large record: it may be copied once a call, but not where code
-runs again and again, in a loop or in a function that is called from a loop or by itself.
+64 bytes are a row of lanes, and less from a place on the stack to which the function copies a row is a part of one. More is
+the query or another large record: it may be copied once a call, but not where code runs again and again, in a loop or in a
+function that is called from a loop or by itself; but for a table of routes, which the writer has for a route of its own.
 
 It does not see what a loop copies byte by byte; a load and its store where a jump, but a loop's own, comes in between;
-and the two arrays without the count, where all that is done with them is that a call is handed their own address.
+the two arrays without the count, where all that is done with them is that a call is handed their own address; and a list
+where a row stands at another time.
 """
 import subprocess
 import sys
@@ -22,7 +24,7 @@ from collections import Counter
 sys.dont_write_bytecode = True
 from machine import functions_of  # noqa: E402
 
-WORD, ARRAYS, ROW = 8, 16, 64
+WORD, ARRAYS, ROW, ROUTES = 8, 16, 64, 512
 QUERY = 2760  # of it, by memcpy: its first word goes by itself
 LIST = "a list of joins"
 SOLVE = ("solved", "join_table")  # judged with all that they call
@@ -68,25 +70,39 @@ def two_words(function, place):
     return place.root == "stack" and near <= ({place.offset} & function.handed) - function.small
 
 
-def kind(function, size, place):
-    """What so many bytes are taken for."""
-    if 0 < size < ROW:
-        return "two words" if size == ARRAYS and two_words(function, place) else LIST
-    return {0: "bytes by count", ROW: "a row of lanes", QUERY: "the query"}.get(size, "a large record")
+def length(run):
+    return run[-1].end - run[0].place.offset
+
+
+def rows(function):
+    """Where on the stack the function copies rows to."""
+    return [run[0].place.offset for run in function.runs() if length(run) == ROW and run[0].place.root == "stack"]
+
+
+def kind(function, run):
+    """What is copied, by its bytes."""
+    size, source, place = length(run), run[0].source, run[0].place
+    if not 0 < size < ROW:
+        known = {0: "bytes by count", ROW: "a row of lanes", ROUTES: "a table of routes", QUERY: "the query"}
+        return known.get(size, "a large record")
+    if size == ARRAYS and two_words(function, place):
+        return "two words"
+    part = source.root == "stack" and any(row <= source.offset and source.offset + size <= row + ROW for row in rows(function))
+    return "a part of a row" if part else LIST
 
 
 def copies(function):
     """The copies in a function: the offset, whether in a loop, the bytes (0 where no number is fixed), the kind."""
     for run in function.runs():
-        size, first = run[-1].end - run[0].place.offset, min(move.i for move in run)
+        size, first = length(run), min(move.i for move in run)
         if size == 0 or size >= ARRAYS:
-            yield function.code[first].at, function.again(first), size, kind(function, size, run[0].place)
+            yield function.code[first].at, function.again(first), size, kind(function, run)
 
 
 def verdict(size, what, again):
     """As what a copy is counted, and whether it may stand."""
     if size == 0 or size > ROW:
-        return f"{what}, {'again and again' if again else 'once a call'}", not again
+        return f"{what}, {'again and again' if again else 'once a call'}", not again or size == ROUTES
     return what, what != LIST
 
 

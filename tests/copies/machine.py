@@ -19,7 +19,7 @@ UNITS = {"b": 1, "w": 2, "l": 4, "q": 8}
 Instruction = namedtuple("Instruction", "at op args size goes calls")
 Place = namedtuple("Place", "root offset")  # what it is counted from, and how far
 Load = namedtuple("Load", "place size")
-Move = namedtuple("Move", "i place end")
+Move = namedtuple("Move", "i source place end")
 
 
 def number(arg):
@@ -154,7 +154,7 @@ class Function:
         batches = self.moves[self.straight, source.root, place.root, source.offset - place.offset]
         if any(place.offset < other.end and other.place.offset < place.offset + size for other in batches[-1]):
             batches.append([])  # the same bytes once more are another copy
-        batches[-1].append(Move(i, place, place.offset + size))
+        batches[-1].append(Move(i, source, place, place.offset + size))
 
     def runs(self):
         """The moves, those side by side together."""
