@@ -2,7 +2,7 @@
  *
  * Cheapest is by the query's prices: a line charges its fixed amount and its rate for each started parcel of 8 bytes that it
  * carries, a site its fixed amount and its rate for each byte that a join there reads and makes. What is sent may go
- * by way of other sites, a send after a send. A relation with an index that was not sent is read by it and not counted; of
+ * by way of other sites, a send after a send. A relation with an index that was never sent is read by it and not counted; of
  * two such operands of a join only the larger is. docs/FORMAT.md has the query file (the ordinary one, which states its
  * sizes) and the plan byte by byte. The function is proved: what it returns and what it writes is its contract, for every
  * query and every output. For x86-64. Link by `pkg-config --cflags --libs fanchuki` where it is installed, or with
