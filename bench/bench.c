@@ -2,7 +2,7 @@
  *
  *   bench                        solve and the whole call of each shape, in microseconds and as ratios
  *   bench loads                  the ordinary load and the load from row counts of each shape
- *   bench before                 the same beside the earlier archive: ten thousand a timing
+ *   bench before                 the same beside the earlier archive: the best of a hundred timings
  *   bench growth                 one line for each star: lines n s trials product-ns plain-ns
  *   bench compare COUNT SEED     so many random queries, every answer and every byte alike
  *   bench shapes                 the shapes, a line each; bench shapes loads those of loads
@@ -287,7 +287,7 @@ static void beside_before(void)
         query_file f;
         figures best;
         shape_file(&f, shapes[i]);
-        measure((files){[SOLVE] = &f, [CALL] = &f}, 10, 10000, 5e6, best);
+        measure((files){[SOLVE] = &f, [CALL] = &f}, 100, 100, 2e6, best);
         for (int w = SOLVE; w <= CALL; w++) {
             double before = best[BEFORE][w], after = best[PRODUCT][w], plain = best[PLAIN][w], fast = best[FAST][w];
             if (!has(BEFORE, w))
