@@ -1,23 +1,24 @@
-//! Why a query has no route, in words, where it is easy to tell.
+//! Why a query has no route, in words.
+//!
+//! A result may be sent on and on, so it gets wherever open lines lead. Several relations make a
+//! plan just where a site that may join is reached from every home, and the query site from
+//! there: all can be joined at that one, and the last join of any plan is at such a site.
 
 use reference::names::Names;
 use reference::query::Query;
 
+use crate::failure::Failure;
 use crate::listing;
 
-const UNKNOWN: &str =
-    "no plan is allowed: over the open lines, and by joins at the sites that may \
-                       join, the relations do not all come together";
-
-/// The heading, and below it each reason that alone is enough; where none is found, that no
-/// plan is allowed.
-pub fn text(query: &Query, names: &Names, trials: u64) -> String {
-    let reasons = reasons(query, names);
-    let reasons = if reasons.is_empty() { UNKNOWN.into() } else { reasons.join("\n") };
-    format!("{}{reasons}\n", listing::no_route(trials))
+/// The heading, and below it the reasons. That there is a route after all is told as a fault.
+pub fn text(query: &Query, names: &Names, trials: u64) -> Result<String, Failure> {
+    match &reasons(query, names)[..] {
+        [] => Err(Failure::Fault("solve answers no route, and the tool finds one".into())),
+        reasons => Ok(format!("{}{}\n", listing::no_route(trials), reasons.join("\n"))),
+    }
 }
 
-/// None where there is a route.
+/// Each is enough by itself; none where there is a route.
 pub fn reasons(query: &Query, names: &Names) -> Vec<String> {
     match query.relations.len() {
         1 => single(query, names).into_iter().collect(),
@@ -28,74 +29,86 @@ pub fn reasons(query: &Query, names: &Names) -> Vec<String> {
 /// One relation goes to the query site as it is.
 fn single(query: &Query, names: &Names) -> Option<String> {
     let home = query.relations.first()?.home;
-    if leads(query, home, query.delivery) {
+    if reached(query, home).contains(&query.delivery) {
         return None;
     }
     let [relation, home, site] =
         [names.the_relation(0), names.the_site(home), names.the_site(query.delivery)];
-    Some(format!("{relation} stands at {home}, and the line from there to {site} is closed"))
+    Some(format!("{relation} stands at {home}, and no open lines lead from there to {site}"))
 }
 
 fn of_several(query: &Query, names: &Names) -> Vec<String> {
-    if !query.sites.iter().any(|site| site.may_join) {
+    let may_join = |&site: &usize| query.sites[site].may_join;
+    let joining: Vec<usize> = (0..query.sites.len()).filter(may_join).collect();
+    if joining.is_empty() {
         return vec!["no site may join".into()];
     }
+    let delivers = |&site: &usize| reached(query, site).contains(&query.delivery);
+    let last: Vec<usize> = joining.into_iter().filter(delivers).collect();
+    if last.is_empty() {
+        let site = names.the_site(query.delivery);
+        return vec![format!(
+            "the result cannot come to {site}: it may not join, and no open lines lead there from \
+             a site that may"
+        )];
+    }
     let relations = 0..query.relations.len();
-    match result(query, names) {
-        Some(reason) => vec![reason],
-        None => relations.filter_map(|number| relation(query, names, number)).collect(),
+    let stuck: Vec<String> =
+        relations.filter_map(|number| relation(query, names, number, &last)).collect();
+    match stuck[..] {
+        [] => apart(query, names, &last).into_iter().collect(),
+        _ => stuck,
     }
 }
 
-/// The result stands where the last join was, and may be sent once.
-fn result(query: &Query, names: &Names) -> Option<String> {
-    let comes = |from: usize| query.sites[from].may_join && leads(query, from, query.delivery);
-    let none = !(0..query.sites.len()).any(comes);
-    let site = names.the_site(query.delivery);
-    none.then(|| {
-        format!(
-            "the result cannot come to {site}: it may not join, and no site that may join has an \
-             open line to it"
-        )
-    })
-}
-
-/// A relation is joined where it stands or where it is sent to, and only then sent on.
-fn relation(query: &Query, names: &Names, number: usize) -> Option<String> {
+/// Why it comes to none of these sites, at which a last join may be.
+fn relation(query: &Query, names: &Names, number: usize, last: &[usize]) -> Option<String> {
     let home = query.relations[number].home;
     let reached = reached(query, home);
-    let [relation, home] = [names.the_relation(number), names.the_site(home)];
-    if !reached.iter().any(|&site| query.sites[site].may_join) {
-        return Some(format!(
-            "{relation} cannot be joined: its home, {home}, may not join and has no open line to \
-             a site that may"
-        ));
+    if reached.iter().any(|site| last.contains(site)) {
+        return None;
     }
-    let site = names.the_site(query.delivery);
-    (!reached.contains(&query.delivery)).then(|| {
+    let joins = reached.iter().any(|&site| query.sites[site].may_join);
+    let [relation, home, site] =
+        [names.the_relation(number), names.the_site(home), names.the_site(query.delivery)];
+    Some(if !joins {
+        format!(
+            "{relation} cannot be joined: its home, {home}, may not join, and no open lines lead \
+             from there to a site that may"
+        )
+    } else if reached.contains(&query.delivery) {
+        format!("{relation} can be joined only where no open lines lead on to {site}")
+    } else {
         format!(
             "{relation} cannot get from its home, {home}, to {site}, alone or joined: no open \
-             lines lead there by sites that may join"
+             lines lead there"
         )
     })
 }
 
-/// The sites to which something that stands at this one can ever get.
+/// Where none of these sites is reached from every home.
+fn apart(query: &Query, names: &Names, last: &[usize]) -> Option<String> {
+    let reached: Vec<Vec<usize>> =
+        query.relations.iter().map(|relation| reached(query, relation.home)).collect();
+    let all_come = |site: &usize| reached.iter().all(|reached| reached.contains(site));
+    let site = names.the_site(query.delivery);
+    (!last.iter().any(all_come)).then(|| {
+        format!(
+            "the relations do not all come together: no site that may join, and from which open \
+             lines lead to {site}, is reached from every home"
+        )
+    })
+}
+
+/// The sites to which open lines lead from this one, and itself.
 fn reached(query: &Query, from: usize) -> Vec<usize> {
     let mut reached = vec![from];
     let mut next = 0;
     while let Some(&site) = reached.get(next) {
         next += 1;
-        if site != from && !query.sites[site].may_join {
-            continue;
-        }
-        let more = (0..query.sites.len()).filter(|&to| leads(query, site, to));
-        let more: Vec<usize> = more.filter(|to| !reached.contains(to)).collect();
+        let more = (0..query.sites.len()).filter(|&to| !reached.contains(&to));
+        let more: Vec<usize> = more.filter(|&to| query.line(site, to).open).collect();
         reached.extend(more);
     }
     reached
-}
-
-fn leads(query: &Query, from: usize, to: usize) -> bool {
-    from == to || query.line(from, to).open
 }

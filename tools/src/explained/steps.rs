@@ -23,9 +23,10 @@ pub fn table(names: &Names, steps: &[Priced]) -> String {
         ("sum", Side::Right),
     ]);
     for (place, priced) in steps.iter().enumerate() {
+        let before = place.checked_sub(1).map(|before| steps[before].step);
         table.add([
             place.to_string(),
-            step(names, priced.step),
+            step(names, priced.step, before),
             site(names, priced),
             wrapped(&names.set(priced.held.set), HELD_WIDTH),
             priced.size.0.to_string(),
@@ -37,12 +38,13 @@ pub fn table(names: &Names, steps: &[Priced]) -> String {
     table.print()
 }
 
-/// Where a send leads stands in the next column.
-fn step(names: &Names, step: Step) -> String {
-    match step {
-        Step::Load { relation } => format!("load {}", names.relation(relation)),
-        Step::Send { .. } => "send".into(),
-        Step::Join { join } => format!("join {join}"),
+/// Where a send leads stands in the next column; one behind another sends the same result on.
+fn step(names: &Names, step: Step, before: Option<Step>) -> String {
+    match (step, before) {
+        (Step::Load { relation }, _) => format!("load {}", names.relation(relation)),
+        (Step::Send { .. }, Some(Step::Send { .. })) => "send on".into(),
+        (Step::Send { .. }, _) => "send".into(),
+        (Step::Join { join }, _) => format!("join {join}"),
     }
 }
 
