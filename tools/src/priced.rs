@@ -57,12 +57,18 @@ impl Price {
     pub fn charge(&self) -> Charge {
         match self {
             Price::Load => Charge(0),
-            Price::Send(sending) => sending.fixed + sending.rate * sending.parcels,
+            Price::Send(sending) => sending.charge(),
             Price::Join(joining) => {
                 let read = joining.read().fold(Bytes(0), |sum, operand| sum + operand.size);
                 joining.fixed + joining.rate * (read + joining.result)
             }
         }
+    }
+}
+
+impl Sending {
+    pub fn charge(&self) -> Charge {
+        self.fixed + self.rate * self.parcels
     }
 }
 

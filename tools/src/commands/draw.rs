@@ -28,8 +28,9 @@ usage: fanchuki draw FILE [--rows] [-o OUT]
            standard output
 
 Relations stand on top and the result at the foot. A thick arrow is a send with its charge and
-parcels; along a thin one nothing is sent, and along a dashed one the index is followed. Where
-'dot' is not there, the .dot is written in place of the .svg, and that is a fault.
+parcels, or a route of several, with the sites on the way; along a thin one nothing is sent, and
+along a dashed one the index is followed. Where 'dot' is not there, the .dot is written in place
+of the .svg, and that is a fault.
 ";
 
 /// By the ending of OUT.

@@ -15,8 +15,9 @@ use crate::wording::numbered;
 const MOST_COLUMNS: usize = 4;
 
 pub fn label(query: &Query, names: &Names, plan: &Plan, nodes: &[Node]) -> String {
-    let mut sites: BTreeSet<usize> = nodes.iter().map(|node| node.site).collect();
-    sites.insert(query.delivery);
+    let made = nodes.iter().map(|node| node.site);
+    let sent = nodes.iter().flat_map(|node| &node.route).map(|sending| sending.to);
+    let sites: BTreeSet<usize> = made.chain(sent).chain([query.delivery]).collect();
     let sites: Vec<usize> = sites.into_iter().collect();
     let rows = sites.len().div_ceil(MOST_COLUMNS);
     let columns = sites.len().div_ceil(rows.max(1)).max(1);

@@ -1,5 +1,5 @@
 //! A plan drawn as a tree in Graphviz's language: relations on top, the whole result at the
-//! foot, a colour for each site, an arrow with its price for each send.
+//! foot, a colour for each site, an arrow with its prices for each route of sends.
 
 pub mod arrow;
 pub mod graphviz;
@@ -46,11 +46,11 @@ pub fn dot(query: &Query, names: &Names, plan: &Plan) -> Option<String> {
     for (number, node) in nodes.iter().enumerate() {
         if let Made::Join { operands, .. } = node.made {
             for operand in operands {
-                text += &arrow(&nodes, operand, &format!("n{number}"));
+                text += &arrow(names, &nodes, operand, &format!("n{number}"));
             }
         }
     }
-    text += &arrow(&nodes, whole, "result");
+    text += &arrow(names, &nodes, whole, "result");
     Some(text + "}\n")
 }
 

@@ -12,18 +12,6 @@ pub enum Made {
     Join { join: usize, joining: Joining, operands: [usize; 2] },
 }
 
-/// How a result gets to where it is used.
-#[derive(Clone, Copy, Debug, PartialEq, Eq)]
-pub enum Carried {
-    Stays,
-    /// It stays, and its index is followed there.
-    Spared,
-    Sent {
-        sending: Sending,
-        charge: Charge,
-    },
-}
-
 /// A result, the site where it is made, and what making it costs.
 #[derive(Clone, Debug, PartialEq, Eq)]
 pub struct Node {
@@ -31,7 +19,10 @@ pub struct Node {
     pub site: usize,
     pub size: Bytes,
     pub charge: Charge,
-    pub carried: Carried,
+    /// The sends that take it to where it is used; none where it stays.
+    pub route: Vec<Sending>,
+    /// It stays, and its index is followed there.
+    pub spared: bool,
 }
 
 /// Operands before what is made of them, so the whole result is the last.
@@ -45,13 +36,12 @@ pub fn nodes(steps: &[Priced]) -> Option<Vec<Node>> {
             (Step::Join { join }, Price::Join(joining)) => {
                 let (top, below) = (held.pop()?, held.pop()?);
                 if let Some(spared) = joining.spared_place() {
-                    nodes.get_mut([below, top][spared])?.carried = Carried::Spared;
+                    nodes.get_mut([below, top][spared])?.spared = true;
                 }
                 Made::Join { join, joining: *joining, operands: [below, top] }
             }
             (_, Price::Send(sending)) => {
-                let carried = Carried::Sent { sending: *sending, charge };
-                nodes.get_mut(*held.last()?)?.carried = carried;
+                nodes.get_mut(*held.last()?)?.route.push(*sending);
                 continue;
             }
             _ => return None,
@@ -62,7 +52,8 @@ pub fn nodes(steps: &[Priced]) -> Option<Vec<Node>> {
             site: priced.held.site,
             size: priced.size,
             charge,
-            carried: Carried::Stays,
+            route: Vec::new(),
+            spared: false,
         });
     }
     Some(nodes)
