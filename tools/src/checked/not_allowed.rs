@@ -2,7 +2,7 @@
 
 use reference::names::Names;
 use reference::query::Query;
-use reference::rules::{Held, Origin};
+use reference::rules::Held;
 use reference::sets;
 use reference::step::Step;
 
@@ -12,7 +12,7 @@ use crate::wording;
 pub fn reason(query: &Query, names: &Names, held: &[Held], step: Option<Step>) -> String {
     match (step, held) {
         (Some(Step::Send { .. }), []) => "nothing is held that could be sent".to_string(),
-        (Some(Step::Send { to }), [.., top]) => send(query, names, top, to),
+        (Some(Step::Send { to }), [.., top]) => send(names, top, to),
         (Some(Step::Join { .. }), []) => "nothing is held, and a join takes two".to_string(),
         (Some(Step::Join { .. }), [one]) => {
             format!("only {} is held, and a join takes two", wording::held(names, one))
@@ -26,18 +26,14 @@ pub fn reason(query: &Query, names: &Names, held: &[Held], step: Option<Step>) -
     }
 }
 
-fn send(query: &Query, names: &Names, top: &Held, to: usize) -> String {
-    let mut reasons = Vec::new();
-    if top.origin == Origin::Sent {
-        reasons.push("was made by a send and is not sent on".to_string());
-    }
+/// To another site it is allowed over every line but a closed one.
+fn send(names: &Names, top: &Held, to: usize) -> String {
     let [from, to_site] = [top.site, to].map(|site| names.the_site(site));
-    if top.site == to {
-        reasons.push(format!("stands at {to_site} already"));
-    } else if !query.line(top.site, to).open {
-        reasons.push(format!("needs the line from {from} to {to_site}, which is closed"));
-    }
-    format!("the top, {}, {}", wording::held(names, top), reasons.join(", and "))
+    let why = match top.site == to {
+        true => format!("stands at {to_site} already"),
+        false => format!("needs the line from {from} to {to_site}, which is closed"),
+    };
+    format!("the top, {}, {why}", wording::held(names, top))
 }
 
 /// Where the two do not stand at one site that may join.

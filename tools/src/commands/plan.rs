@@ -26,8 +26,9 @@ usage: fanchuki plan FILE [--rows]
   --rows   a packed FILE has row counts and divisors in place of sizes
 
 The first line has the number of steps, the cost and the trials; then each step comes as
-'load RELATION', 'send SITE' or 'join NUMBER', by the names that the text gives. Where no plan
-is allowed the one line 'no route trials N' is printed.
+'load RELATION', 'send SITE' or 'join NUMBER', by the names that the text gives. Sends in a row
+take one result along a route. Where no plan is allowed the one line 'no route trials N' is
+printed.
 ";
 
 fn run(words: &[OsString]) -> Result<Done, Failure> {

@@ -126,7 +126,7 @@ fn failed(reason: impl Display) -> Failure {
 }
 
 /// What a record carries of a file or a plan. One that is longer than this is refused for what
-/// stands far before: the longest query file has under 2,000 bytes, the longest plan under 100.
+/// stands far before: the longest query file has under 2,000 bytes, the longest plan under 300.
 fn front(bytes: &[u8]) -> Vec<u8> {
     bytes[..bytes.len().min(MOST_CARRIED)].to_vec()
 }

@@ -1,11 +1,15 @@
 //! How far the price of one line may move: searched over the proved answers.
 //!
-//! A plan's cost is a straight line in the fixed amount, and in the rate, of a line between
-//! sites; the cheapest cost is the least of such straight lines, so it is concave. Both searches
-//! rest on that. Today's plan less the cheapest is convex, never below 0, and 0 today: once it
-//! is above 0 it stays so. And plans that do not use the line keep their cost while those that
-//! use it only get dearer, or stay where nothing of it is charged: once none of these is taken,
-//! none is taken again, since of plans that cost the same one order decides.
+//! A plan's cost is a straight line in the fixed amount of a line between sites, as steep as the
+//! plan has sends over it, and in its rate, as steep as these have parcels. The cheapest cost is
+//! the least of such straight lines, whatever the routes of the plans, so it is concave. Today's
+//! plan less the cheapest is convex, never below 0, and 0 today: once it is above 0 it stays so.
+//!
+//! Plans that do not use the line keep their cost while those that use it only get dearer, or
+//! stay where nothing of it is charged. Of plans that cost the least one order decides that no
+//! price has a part in: the lowest site of the last join, then the fewest sends and the lowest
+//! next sites from there, then the lowest join, and so on for its two parts. So a plan that is
+//! taken and does not use the line is taken ever after, while the line gets dearer.
 
 use reference::limits::{MOST_FIXED, MOST_RATE};
 use reference::query::Line;
