@@ -6,11 +6,12 @@ use std::fs;
 
 use common::examples::{self, EXAMPLES};
 use common::proved;
-use common::{example, held_to, run, run_on, stored};
+use common::{example, held_to, run, run_on, scratch, stored};
 use fanchuki::checked::plan_text::{self, PlanText};
 use fanchuki::checked::verdict::verdict;
 use reference::generate::plans;
 use reference::generate::queries::{self, Extent};
+use reference::limits::MOST_STEPS;
 use reference::method::Method;
 use reference::pinned;
 use reference::random::Random;
@@ -40,8 +41,9 @@ fn a_printed_plan_checks_at_its_own_cost() {
 /// What docs/RULES.md, 14.2, and docs/FORMAT.md say of plans for Q.
 #[test]
 fn plans_for_q_are_stored() {
-    let texts: [&str; 14] = [
+    let texts: [&str; 15] = [
         "load 1\nsend 0\nload 0\njoin 0\n",
+        "load 0\nload 1\nsend 2\nsend 0\njoin 0\n",
         "load 0\nsend to 1\nload 1\njoin 0\nsend to site 0\n",
         "load 0 # customers\n\n2, 2\nload 1\n2 2\n3 0\n2 0\n",
         "",
@@ -62,7 +64,7 @@ fn plans_for_q_are_stored() {
         transcript += &format!("{text}-> {code} {said}\n");
     }
     for bytes in
-        [&b"\x04\x01\0\x01\x01\x02\0\x03"[..], b"\x23\x01", b"\0", b"\x01\x04\0", b"\x01\x02\x03"]
+        [&b"\x04\x01\0\x01\x01\x02\0\x03"[..], b"\x89\x01", b"\0", b"\x01\x04\0", b"\x01\x02\x03"]
     {
         let (code, said) = check(bytes);
         transcript += &format!("{bytes:?}\n-> {code} {said}\n");
@@ -114,15 +116,31 @@ fn the_text_s_faults_refuse_it() {
     assert_eq!(check(b"load \xff\n").0, 1);
 }
 
+/// Relation 1 goes to and fro, each time for 2, before it is joined for 19.
 #[test]
-fn at_most_34_steps() {
-    let longest = "load 0\n".repeat(34);
-    let (code, said) = check(longest.as_bytes());
-    assert!(code == 1 && said.starts_with("refused 9 at step 1 (line 2), load 0: "), "{said}");
-    let (code, said) = check(format!("{longest}\nload 0\nload 0\n").as_bytes());
-    assert_eq!(code, 1);
-    let told = ":36:1: a plan has at most 34 steps, and this is one more\n  load 0\n  ^\n";
-    assert!(said.ends_with(told), "{said}");
+fn as_many_steps_as_may_be() {
+    let sends = MOST_STEPS - 3;
+    let to_and_fro: String = (0..sends).map(|send| format!("send {}\n", send % 2)).collect();
+    let plan = format!("load 1\n{to_and_fro}load 0\njoin 0\n");
+    let cost = 2 * sends + 19;
+    let told = format!("accepted at {cost}\nthe cheapest costs 21, {} less\n", cost - 21);
+    assert_eq!(check(plan.as_bytes()), (0, told));
+    let (code, said) = check(format!("{plan}\nload 0\nload 0\n").as_bytes());
+    let line = MOST_STEPS + 2;
+    let told = format!(":{line}:1: a plan has at most {MOST_STEPS} steps, and this is one more\n");
+    assert!(code == 1 && said.ends_with(&(told + "  load 0\n  ^\n")), "{said}");
+}
+
+/// All 100 bytes of relation 0 are read, unless it stays at home.
+#[test]
+fn home_again_without_the_index() {
+    let text = "sites 0 to 1 may join, fixed 2, rate 1\nrelation 0 at site 0, indexed\n\
+                relation 1 at site 0\njoin 0 links 0 and 1\nsize of 0 is 100\nsize of 1 is 4\n\
+                size of 0 1 is 3\nevery line open, fixed 0, rate 0\ndelivery to site 0\n";
+    let plan = scratch("home-again.txt");
+    fs::write(&plan, "load 0\nsend 1\nsend 0\nload 1\njoin 0\n").expect("the plan is written");
+    let run = run_on(&["check", "-", &plan], text.as_bytes());
+    assert_eq!(run.text(), "accepted at 109\nthe cheapest costs 9, 100 less\n", "{}", run.said);
 }
 
 #[test]

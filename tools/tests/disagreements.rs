@@ -4,6 +4,7 @@ mod common;
 
 use common::stand_in::{run_by_answers, run_by_script};
 use common::{example, stored};
+use reference::limits::LONGEST_PLAN;
 
 /// A plan of Q that costs 21, and one that is refused with 11 at step 2.
 const RIGHT: &str = "plan-q.txt";
@@ -14,7 +15,7 @@ const LOAD: &str = "load 2 3";
 const PLAN: &str = "040100010102000300";
 
 fn solved(cost: u64) -> String {
-    format!("solved {cost} 9 3 {PLAN}{}", "00".repeat(60))
+    format!("solved {cost} 9 3 {PLAN}{}", "00".repeat(LONGEST_PLAN - PLAN.len() / 2))
 }
 
 fn check(plan: &str, lines: &[&str]) -> (i32, String, String) {
@@ -66,6 +67,14 @@ fn a_solve_that_does_not_go_with_check() {
         let lines = [&["check 21"], &answer[..]].concat();
         assert_eq!(check(RIGHT, &lines), (3, String::new(), format!("fanchuki: {said}\n")));
     }
+}
+
+#[test]
+fn no_route_where_the_tool_finds_one() {
+    let answers = format!("{LOAD}\nno-route 3\ncells OK\noutput OK\n");
+    let said = "fanchuki: solve answers no route, and the tool finds one\n";
+    let explained = run_by_answers(&answers, &["explain", &example("q.txt")]);
+    assert_eq!(explained.told(), (3, String::new(), said.into()));
 }
 
 fn whatif(words: &[&str], lines: &[&str]) -> (i32, String, String) {

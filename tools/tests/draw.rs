@@ -9,14 +9,18 @@ use common::examples::{self, EXAMPLES};
 use common::{example, held_to, proved, run, subcommands};
 use fanchuki::cheapest::{self, Cheapest};
 use fanchuki::drawn;
+use reference::query::Line;
 
 #[test]
 fn every_example_is_drawn() {
     examples::are_stored("draw", "dot");
 }
 
+/// The line from the second site to the first is closed, and the way is by the third.
 fn with_names(relations: [&str; 4], sites: [&str; 3]) -> String {
     let mut loaded = proved::four_tables(relations, sites);
+    let line = Line { open: false, ..*loaded.query.line(1, 0) };
+    loaded.link((1, 0), line).expect("the line is closed");
     let Ok(Cheapest::Plan(plan)) = cheapest::find(&mut loaded) else { panic!("no plan") };
     drawn::dot(&loaded.query, &loaded.names, &plan).expect("a tree")
 }
@@ -55,8 +59,9 @@ fn graphviz_takes_the_drawings() {
         assert!(picture(&drawing).is_none_or(|svg| svg.contains("<svg")));
     }
     let Some(svg) = picture(&with_odd_names()) else { return };
-    for name in [">größen<", ">a&quot;b\\n<", ">&lt;b&gt;&amp;amp;<", ">at łódź<", ">at \\N\\\\L<"]
-    {
+    let relations = [">größen<", ">a&quot;b\\n<", ">&lt;b&gt;&amp;amp;<"];
+    let sites = [">at łódź<", ">at \\N\\\\L<", ">by way of \\N\\\\L<"];
+    for name in relations.into_iter().chain(sites) {
         assert!(svg.contains(name), "{name}: {svg}");
     }
 }

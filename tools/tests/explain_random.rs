@@ -5,7 +5,7 @@ mod common;
 use common::proved::{put, random, running};
 use fanchuki::cheapest::{self, Cheapest, Plan};
 use fanchuki::explained::{no_route, steps};
-use fanchuki::priced::Price;
+use fanchuki::priced::{Price, Priced};
 use reference::names::Names;
 use reference::query::Query;
 use reference::rules::Stack;
@@ -21,9 +21,9 @@ const QUERIES: u64 = 6_000;
 struct Seen {
     routes: u64,
     no_routes: u64,
-    reasons: u64,
     from_rows: u64,
     sends: u64,
+    sent_on: u64,
     joins: u64,
     spared: u64,
     two_indexes: u64,
@@ -33,6 +33,8 @@ impl Seen {
     fn add(&mut self, plan: &Plan, form: Form) {
         self.routes += 1;
         self.from_rows += u64::from(form == Form::Rows);
+        let are_sends = |two: &&[Priced]| two.iter().all(|it| matches!(it.price, Price::Send(_)));
+        self.sent_on += plan.steps.windows(2).filter(are_sends).count() as u64;
         for priced in &plan.steps {
             match priced.price {
                 Price::Load => {}
@@ -59,8 +61,8 @@ fn the_sum_is_the_proved_cost() {
         match cheapest::find(&mut loaded) {
             Ok(Cheapest::NoRoute { trials }) => {
                 assert_eq!(trials, solve::trials(&loaded.query), "case {case}");
+                assert_ne!(reasons(&loaded.query), [""; 0], "case {case}");
                 seen.no_routes += 1;
-                seen.reasons += u64::from(!reasons(&loaded.query).is_empty());
             }
             Ok(Cheapest::Plan(plan)) => {
                 by_the_rules(&loaded.query, &plan);
@@ -72,12 +74,12 @@ fn the_sum_is_the_proved_cost() {
         }
     }
     assert!(seen.routes > 4_000 && seen.from_rows > 1_000, "{seen:?}");
-    assert!(seen.no_routes > 1_000 && seen.reasons > 1_000, "{seen:?}");
-    assert!(seen.sends > 10_000 && seen.joins > 15_000, "{seen:?}");
+    assert!(seen.no_routes > 500 && seen.joins > 15_000, "{seen:?}");
+    assert!(seen.sends > 10_000 && seen.sent_on > 2_000, "{seen:?}");
     assert!(seen.spared > 5_000 && seen.two_indexes > 1_000, "{seen:?}");
 }
 
-/// Why there is no route; where there is one, a reason would not be true.
+/// Why there is no route: always told, and never where there is one.
 fn reasons(query: &Query) -> Vec<String> {
     no_route::reasons(query, &Names::default())
 }
