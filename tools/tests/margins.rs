@@ -69,8 +69,15 @@ impl Scan<'_> {
     }
 }
 
-/// Of every line of the query; how many are used, and how many fall short at 0.
-fn hold_margins(loaded: &mut Loaded, met: &mut [u64; 5]) {
+/// Whether a send follows a send.
+fn sends_on(plan: &[u8]) -> bool {
+    let kinds: Vec<u8> = plan[1..].chunks(2).map(|step| step[0]).collect();
+    kinds.windows(2).any(|two| two == [2, 2])
+}
+
+/// Of every line of the query; how many are used, in a plan with routes, and how many fall short
+/// at 0.
+fn hold_margins(loaded: &mut Loaded, met: &mut [u64; 6]) {
     let query = loaded.query.clone();
     let Some((_, today)) = solved(&query) else {
         return;
@@ -85,6 +92,7 @@ fn hold_margins(loaded: &mut Loaded, met: &mut [u64; 5]) {
             Margins::Used { fixed, rate } => {
                 met[0] += 1;
                 met[1] += u64::from(fixed == MOST_FIXED);
+                met[5] += u64::from(sends_on(&today));
                 (Some(fixed), Some(rate), [line.fixed.0, line.rate.0])
             }
             Margins::Unused { fixed, rate, both } => {
@@ -111,10 +119,10 @@ fn hold_margins(loaded: &mut Loaded, met: &mut [u64; 5]) {
 #[test]
 fn margins_hold_to_the_last_unit() {
     let mut loaded = proved::running();
-    let mut met = [0; 5];
+    let mut met = [0; 6];
     for case in 0..600 {
         let mut random = Random::for_case(74, case);
-        let sites = random.between(2, 4);
+        let sites = random.between(2, 5);
         let extent = Extent { relations: 1..=5, sites: sites..=sites };
         let query = match case % 2 {
             0 => queries::query(&mut random, &extent),
@@ -151,4 +159,32 @@ fn a_scan_of_all_rates() {
             }
         }
     }
+}
+
+/// The plans at these prices of a line, from the first on that does without it.
+fn without(query: &Query, ends: (usize, usize), prices: Vec<Line>) -> Vec<Vec<u8>> {
+    let changed = prices.into_iter().map(|line| with(query, ends, line));
+    let plans = changed.filter_map(|query| Some((solved(&query)?.1, query)));
+    plans.skip_while(|(plan, query)| uses(query, plan, ends)).map(|(plan, _)| plan).collect()
+}
+
+/// A plan that does without the line is the plan at all higher prices too.
+#[test]
+fn a_plan_without_the_line_stays() {
+    let mut left = 0;
+    for case in 0..300 {
+        let mut random = Random::for_case(82, case);
+        let query = queries::tied(&mut random, &Extent { relations: 1..=4, sites: 2..=5 });
+        for ends in Query::line_ends(query.sites.len()) {
+            let line = Line { open: true, ..*query.line(ends.0, ends.1) };
+            let by_fixed = (0..8).map(|fixed| Line { fixed: Charge(fixed), ..line }).collect();
+            let by_rate = (0..8).map(|rate| Line { rate: Rate(rate), ..line }).collect();
+            for prices in [by_fixed, by_rate] {
+                let without = without(&query, ends, prices);
+                assert!(without.windows(2).all(|two| two[0] == two[1]), "case {case}, {ends:?}");
+                left += u64::from((1..8).contains(&without.len()));
+            }
+        }
+    }
+    assert!(left > 200, "{left}");
 }
