@@ -1,5 +1,5 @@
 -- What a price and a trial come to, and that their sums keep far below a word's limit.
-use Prim.Native.Nat.{ℕ, _+_, _-_, _*_, _≤_, _<_, zero-le}
+use Prim.Native.Nat.{ℕ, _+_, _-_, _*_, _≤_, zero-le}
 use native.Mathlib.Nat.{le-refl}
 use native.Mathlib.Omega.{arith}
 use mathlib.Core.Path.{_≡_, sym, _∙_}
@@ -10,12 +10,10 @@ use lib.ListN.{getD}
 use borrow.Author.Tests.{eq-eqb, ne-eqb}
 use Rattle.relations.specs.Sets.{bit}
 use Rattle.query.specs.Choice.{pick}
-use Rattle.query.specs.Prices.{lineCharge}
 use Rattle.board.specs.Figures.{noneMark}
 use Rattle.filler.specs.Cells.{placeIn}
-use Rattle.board.specs.Board.{lane, fixedAt, rateAt, lineFixedAt, lineRateAt, sitesAt}
+use Rattle.board.specs.Board.{lane, fixedAt, rateAt}
 use Rattle.filler.specs.Trials.{Lent, priceIn, Priced, trialOf, Triable, bareAt}
-use Rattle.sender.specs.Delivering.{lineIn, Carriable}
 
 -- The price of a join: its sizes as they are looked up.
 module _ (b sizes : List ℕ) (P R i k x y : ℕ) (p : Priced b sizes P R i k) (ex : x ≡ getD sizes P 0) (ey : y ≡ getD sizes R 0) where

@@ -6,7 +6,7 @@ use board::BOARD;
 use board::NONE;
 use query::Bytes;
 use sender::line_at;
-ghost use Prim.Native.Nat.{ℕ, _+_, _≤_, _<_};
+ghost use Prim.Native.Nat.{_+_, _≤_, _<_};
 ghost use mathlib.Core.List.{[], _∷_};
 ghost use lib.ListN.{length};
 ghost use Rattle.tables.specs.Written.{sendSteps, stepBytes};

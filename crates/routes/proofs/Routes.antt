@@ -11,9 +11,9 @@ use lib.ListN.{length}
 use native.Mathlib.Nat.{le-refl, suc-mul}
 use native.Mathlib.Decide.{decLt}
 use native.Mathlib.Omega.{arith}
-use borrow.Author.Tests.{eq-eqb, ne-eqb, eqb-true, eqb-false, leb-true, leb-false, le-ltb}
-use Rattle.relations.specs.Sets.{bit, all, Sub}
-use Rattle.relations.proofs.Bits.{bit-le, bit-pow, bit-all, pow-cases, more-cases}
+use borrow.Author.Tests.{eq-eqb, eqb-true, leb-true, leb-false, le-ltb}
+use Rattle.relations.specs.Sets.{bit, all}
+use Rattle.relations.proofs.Bits.{bit-le, bit-all, pow-cases, more-cases}
 use Rattle.relations.proofs.Counts.{ones-mono, ones-pow, ones-more}
 use Rattle.query.specs.declared.Query.{Query}
 use Rattle.query.specs.Choice.{pick}
@@ -23,7 +23,7 @@ use Rattle.query.specs.Prices.{sending, dearestLine}
 use Rattle.query.proofs.Prices.{sending-most}
 use Rattle.routes.specs.Least.{Best, better, best, least, lowestAt}
 use Rattle.routes.specs.Routes.{routeCost, lastSite, bySends, cheapestRoute, fewestSends, nextSite, stops, carriage, dearestCarriage}
-use Rattle.routes.specs.Theorems.{AllBelow, NoneCheaper, NoneShorter, Taken, RouteTaken, Onward}
+use Rattle.routes.specs.Theorems.{AllBelow, NoneCheaper, NoneShorter, RouteTaken, Onward}
 use Rattle.routes.proofs.Costs.{none-some, some-same, at-most-is, at-most-more, Two, both-found, plus-most}
 use Rattle.routes.proofs.Least.{least-most, least-found, lowest-most}
 

@@ -5,7 +5,7 @@ use board::LINE_FIXED;
 use board::LINE_RATE;
 use board::NONE;
 use board::sites_of;
-ghost use Prim.Native.Nat.{ℕ, _≤_, _<_};
+ghost use Prim.Native.Nat.{_≤_, _<_};
 ghost use mathlib.Core.Path.{_≡_};
 ghost use mathlib.Core.Bool.{true};
 ghost use Rattle.board.specs.Board.{sitesAt};

@@ -1,6 +1,6 @@
 -- The writer's choices: each turn of their loops weighs one site or one join more, a choice among the figures of a row is one among what the row was
 -- worked out from, and a query whose cells are filled gives all that the choices ask.
-use Prim.Native.Nat.{ℕ, zero, suc, _+_, _-_, _*_, _^_, _≤_, _<_}
+use Prim.Native.Nat.{ℕ, zero, suc, _+_, _-_, _^_, _≤_, _<_}
 use native.Mathlib.Nat.{le-refl, le-antisymm, pow-suc}
 use native.Mathlib.Numerals.{add-one}
 use native.Mathlib.Omega.{arith}
@@ -34,7 +34,7 @@ use Rattle.filler.specs.Trials.{Lent, sizeIn, trialOf, Triable, joinTrial, Join
 use Rattle.sender.specs.Rows.{AtSites}
 use Rattle.sender.specs.Delivering.{Carriable, DeliveredFrom}
 use Rattle.filler.specs.Filling.{Filled}
-use Rattle.router.specs.Routing.{bySendsIn, carriageIn, RoutesTo, siteTrial, siteIn}
+use Rattle.router.specs.Routing.{siteTrial, siteIn}
 use Rattle.solver.specs.Writing.{joinsWithin, siteBy, joinBy, Known}
 use Rattle.solver.proofs.Routed.{sites-kept}
 use Rattle.board.proofs.LeastFigures.{choice-more, choice-same, place-same}

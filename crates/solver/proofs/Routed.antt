@@ -4,7 +4,7 @@ use native.Mathlib.Nat.{le-refl, suc-mul}
 use native.Mathlib.Omega.{arith}
 use mathlib.Core.Path.{_≡_, refl, sym, ap, subst, _∙_}
 use mathlib.Core.Bool.{Bool, true, false}
-use mathlib.Core.List.{List, [], _∷_}
+use mathlib.Core.List.{List, _∷_}
 use lib.Dec.{eqb}
 use Rattle.query.specs.declared.Query.{Query}
 use Rattle.query.specs.Choice.{pick}
@@ -19,7 +19,7 @@ use Rattle.tables.specs.Theorems.{mostCost}
 use Rattle.filler.proofs.Started.{startCost}
 use Rattle.filler.proofs.Columns.{start-up-to}
 use Rattle.routes.proofs.Costs.{none-some, some-same}
-use Rattle.routes.specs.Least.{Best, best, least, lowestAt}
+use Rattle.routes.specs.Least.{Best, best}
 use Rattle.routes.specs.Routes.{bySends, cheapestRoute, fewestSends, nextSite, stops, carriage, route, dearestCarriage}
 use Rattle.board.specs.Figures.{noneMark, mark, leastOf, placeOf}
 use Rattle.board.specs.Board.{sitesAt}

@@ -2,7 +2,7 @@
 -- since a route with a line more is a route. A join's operands are the parts of their union, so Joined has that join among its candidates.
 use Prim.Native.Nat.{ℕ, _+_, _^_, _≤_, _<_, zero-le}
 use mathlib.Core.Path.{_≡_, sym, ap, subst, _∙_}
-use mathlib.Core.Bool.{Bool, true, false}
+use mathlib.Core.Bool.{Bool, true}
 use mathlib.Core.Logic.{_⊎_, inl, inr}
 use lib.Count.{ones}
 use lib.ListN.{length}

@@ -1,5 +1,5 @@
 -- `routing::add_sends` meets its contract: each turn adds the figure of one site more. Assumes nothing.
-use Prim.Native.Nat.{ℕ, _+_, _-_, _*_, _≤_, _<_}
+use Prim.Native.Nat.{_-_, _≤_, _<_}
 use native.Mathlib.Omega.{arith}
 use borrow.Author.Needs.{needs}
 use Rattle.router.specs.Routing.{SendsAdded}

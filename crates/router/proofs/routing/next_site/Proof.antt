@@ -1,10 +1,10 @@
 -- `routing::next_site` meets its contract: each turn weighs one site more. Assumes nothing.
 use Prim.Native.Nat.{ℕ, _+_, _-_, _*_, _≤_, _<_}
 use native.Mathlib.Omega.{arith}
-use mathlib.Core.Path.{refl, ap}
+use mathlib.Core.Path.{ap}
 use lib.ListN.{getD}
 use borrow.Author.Needs.{needs}
-use Rattle.board.specs.Figures.{ChoiceOf, noneMark}
+use Rattle.board.specs.Figures.{ChoiceOf}
 use Rattle.board.proofs.LeastFigures.{choice-none, choice-more}
 use Rattle.router.specs.Routing.{firstTo}
 use Rattle.router.proofs.Weighed.{choice-done}

@@ -1,5 +1,5 @@
 -- `routing::routes_to` meets its contract: each turn adds the figures of one send more. Assumes nothing.
-use Prim.Native.Nat.{ℕ, _+_, _-_, _≤_, _<_}
+use Prim.Native.Nat.{_+_, _-_, _≤_}
 use native.Mathlib.Omega.{arith}
 use borrow.Author.Needs.{needs}
 use Rattle.router.specs.Routing.{RoutesTo}

@@ -1,5 +1,5 @@
 -- `detours::other_lines` meets its contract: each turn copies one fixed amount more, and the sender's own is cleared at the end. Assumes nothing.
-use Prim.Native.Nat.{ℕ, _+_, _-_, _*_, _≤_, _<_}
+use Prim.Native.Nat.{_-_, _≤_}
 use native.Mathlib.Omega.{arith}
 use mathlib.Core.Path.{refl}
 use borrow.Author.Needs.{needs}

@@ -1,5 +1,5 @@
 -- `detours::spare_at` meets its contract: both differences have enough only where nothing is missing. Assumes nothing.
-use Prim.Native.Nat.{ℕ, _≤_}
+use Prim.Native.Nat.{_≤_}
 use native.Mathlib.Omega.{arith}
 use mathlib.Core.Path.{refl}
 use lib.ListN.{getD}

@@ -1,7 +1,6 @@
 -- `detours::spare_over` meets its contract: each turn weighs the way to one site more. Assumes nothing.
-use Prim.Native.Nat.{ℕ, _-_, _≤_, _<_}
+use Prim.Native.Nat.{_-_, _≤_}
 use native.Mathlib.Omega.{arith}
-use borrow.Author.Needs.{needs}
 use Rattle.sender.specs.Detours.{DirectOver}
 use Rattle.sender.proofs.NoDetours.{over-more}
 use Rattle.sender.proofs.detours.spare_over.Statement.{statement}

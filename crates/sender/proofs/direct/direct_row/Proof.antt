@@ -1,9 +1,8 @@
 -- `direct::direct_row` meets its contract: each turn one site more sends what it started with. Assumes nothing.
-use Prim.Native.Nat.{ℕ, _+_, _-_, _*_, _≤_, _<_}
+use Prim.Native.Nat.{ℕ, _-_, _≤_, _<_}
 use native.Mathlib.Omega.{arith}
 use lib.ListN.{getD}
 use borrow.Author.Needs.{needs}
-use Rattle.board.specs.Board.{sitesAt}
 use Rattle.sender.proofs.Directed.{Directing, directing-none, directing-more, directed}
 use Rattle.sender.proofs.direct.direct_row.Statement.{statement}
 use Rattle.sender.proofs.direct.direct_row.Tie as tie

@@ -1,6 +1,5 @@
 -- `writing::join_site` meets its contract: the row of the joins is worked out again, and the lowest site from where the figure is reached is chosen.
 -- Assumes nothing.
-use borrow.Author.Needs.{needs}
 use native.Mathlib.Omega.{arith}
 use Rattle.rules.proofs.Combinations.{plus-combines}
 use Rattle.solver.proofs.Choices.{known-low, few-joins, joinable, carriable, site-figure, site-by}
