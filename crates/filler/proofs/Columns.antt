@@ -27,7 +27,8 @@ use Rattle.routes.specs.Least.{lowestAt}
 use Rattle.routes.specs.Routes.{bySends, fewestSends, nextSite, carriage}
 use Rattle.routes.proofs.Costs.{none-some, some-same, at-most-is, at-most-more, both-found, plus-most}
 use Rattle.routes.proofs.Least.{least-most, least-found}
-use Rattle.routes.proofs.Routes.{none-sent, first-send, stays, fewest}
+use Rattle.routes.proofs.Sends.{none-sent, first-send}
+use Rattle.routes.proofs.Taken.{stays, fewest}
 use Rattle.tables.specs.Tables.{firstPart, only, bySite, delivered, joined}
 use Rattle.tables.specs.Theorems.{mostCost}
 use Rattle.tables.proofs.Lower.{sends}

@@ -11,7 +11,7 @@ use borrow.Author.Tests.{ltb-true, ltb-false}
 use Rattle.query.specs.Choice.{pick}
 use Rattle.query.specs.Cost.{Cost, none, some, AtMost}
 use Rattle.routes.specs.Least.{Best, better, best, least, lowestAt}
-use Rattle.routes.proofs.Costs.{none-some, some-same}
+use Rattle.routes.proofs.Costs.{none-some, some-same, at-most-is, number}
 
 abbrev this : ℕ → ℕ → Best
 this c i = record { cost = some c; at = i }
@@ -58,6 +58,19 @@ pub least-found : (f : ℕ → Cost) (m c : ℕ) → least f m ≡ some c → (l
 unfolding best
 least-found f zero c h = absurd (none-some c h)
 least-found f (suc m) c h = better-found f m (best f m) (f m) (least f m) c refl refl (least-found f m) h
+
+-- A candidate that is at most a number, where the least is.
+pub some-candidate : (f : ℕ → Cost) (m x : ℕ) → AtMost (least f m) x → (i : ℕ) × ((i < m) × AtMost (f i) x)
+some-candidate f m x h =
+    let found = number (least f m) x h in
+    let there = least-found f m (found .0) (found .1 .0) in
+    (lowestAt f m, (there .0, at-most-is (f (lowestAt f m)) (found .0) x (there .1) (found .1 .1)))
+
+-- More candidates are no dearer.
+pub least-longer : (f : ℕ → Cost) (m n x : ℕ) → m ≤ n → AtMost (least f m) x → AtMost (least f n) x
+least-longer f m n x l h =
+    let there = some-candidate f m x h in
+    least-most f n (there .0) x (omega (arith, there .1 .0)) (there .1 .1)
 
 -- No candidate that is as little stands at a lower place.
 pub lowest-most : (f : ℕ → Cost) (m i c : ℕ) → i < m → least f m ≡ some c → AtMost (f i) c → lowestAt f m ≤ i

@@ -1,4 +1,6 @@
 pub mod Answers
 pub mod Costs
 pub mod Least
-pub mod Routes
+pub mod Sends
+pub mod Cheaper
+pub mod Taken

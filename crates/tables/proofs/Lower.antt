@@ -22,7 +22,8 @@ use Rattle.query.specs.Query.{Valid, relationsOf, sitesOf, home, mayJoin}
 use Rattle.query.specs.Prices.{linePrice, sending, joinPrice, indexed}
 use Rattle.query.proofs.Prices.{join-either, qualified-cheaper, sending-open}
 use Rattle.routes.specs.Routes.{carriage}
-use Rattle.routes.proofs.Routes.{number, onward, stays}
+use Rattle.routes.proofs.Cheaper.{onward}
+use Rattle.routes.proofs.Taken.{stays}
 use Rattle.rules.specs.declared.Held.{Held}
 use Rattle.rules.specs.Combine.{Combines}
 use Rattle.rules.specs.Machine.{bareOf, isBare, sentTo, links, qualifies, joinOf}
@@ -33,7 +34,7 @@ use Rattle.rules.proofs.Kept.{Keeps, Stacks, run-kept}
 use Rattle.tables.specs.Tables.{only, byJoin, bySite, delivered, joined}
 use Rattle.tables.specs.Written.{bestSite}
 use Rattle.tables.specs.Theorems.{AnyStepsLaw, CheapestLaw}
-use Rattle.routes.proofs.Costs.{at-most-is, at-most-more, both-most, plus-most}
+use Rattle.routes.proofs.Costs.{at-most-is, at-most-more, both-most, plus-most, number}
 use Rattle.tables.proofs.Tables.{ones-some, BySite, delivered-one, delivered-within, delivered-found, joined-within}
 
 module _ (combine : ℕ → ℕ → ℕ) (laws : Combines combine) (q : Query) (v : Valid q) where

@@ -13,7 +13,7 @@ use Rattle.query.specs.Query.{Valid, relationsOf, home}
 use Rattle.query.specs.Prices.{dearestJoin, indexed}
 use Rattle.query.proofs.Prices.{join-most}
 use Rattle.routes.specs.Routes.{dearestCarriage}
-use Rattle.routes.proofs.Routes.{carriage-most}
+use Rattle.routes.proofs.Taken.{carriage-most}
 use Rattle.rules.specs.Combine.{Combines}
 use Rattle.rules.specs.Allowed.{mostSteps}
 use Rattle.rules.specs.Code.{Room}

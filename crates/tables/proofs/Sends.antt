@@ -19,7 +19,8 @@ use Rattle.query.specs.Query.{Valid, relationsOf, sitesOf, home}
 use Rattle.query.specs.Prices.{linePrice, sending, indexed}
 use Rattle.query.proofs.Prices.{sending-is}
 use Rattle.routes.specs.Routes.{bySends, fewestSends, nextSite, stops, carriage, route}
-use Rattle.routes.proofs.Routes.{none-sent, first-send, fewest, route-taken, stays-unsent}
+use Rattle.routes.proofs.Sends.{none-sent, first-send}
+use Rattle.routes.proofs.Taken.{fewest, route-taken, stays-unsent}
 use Rattle.rules.specs.declared.Step.{Step}
 use Rattle.rules.specs.declared.Origin.{Origin}
 use Rattle.rules.specs.declared.Origin.the-variants.{Bare, Sent}

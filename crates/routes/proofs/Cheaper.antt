@@ -1,87 +1,26 @@
 -- No route of lines is cheaper than the cheapest of fewer sends than there are sites. A route that is cheaper than all of fewer sends goes through
 -- a site more than it has sends: each site on its way is reached from there on for no more than the whole, by no more sends; so none comes twice.
-use Prim.Native.Nat.{ℕ, zero, suc, _+_, _*_, _^_, _≤_, _<_, zero-le}
-use mathlib.Core.Path.{_≡_, refl, sym, ap, subst, _∙_}
-use mathlib.Core.Bool.{Bool, true, false}
+use Prim.Native.Nat.{ℕ, zero, suc, _+_, _^_, _≤_, _<_, zero-le}
+use mathlib.Core.Path.{_≡_, refl, sym, subst}
 use mathlib.Core.Logic.{_⊎_, inl, inr}
 use mathlib.Core.List.{List, [], _∷_}
 use lib.Count.{ones, ones-ones}
-use lib.Dec.{eqb, leb}
 use lib.ListN.{length}
-use native.Mathlib.Nat.{le-refl, suc-mul}
+use native.Mathlib.Nat.{le-refl}
 use native.Mathlib.Decide.{decLt}
 use native.Mathlib.Omega.{arith}
-use borrow.Author.Tests.{eq-eqb, eqb-true, leb-true, leb-false, le-ltb}
 use Rattle.relations.specs.Sets.{bit, all}
 use Rattle.relations.proofs.Bits.{bit-le, bit-all, pow-cases, more-cases}
 use Rattle.relations.proofs.Counts.{ones-mono, ones-pow, ones-more}
-use Rattle.query.specs.declared.Query.{Query}
-use Rattle.query.specs.Choice.{pick}
-use Rattle.query.specs.Cost.{Cost, none, some, plus, AtMost}
-use Rattle.query.specs.Query.{Valid, sitesOf}
-use Rattle.query.specs.Prices.{sending, dearestLine}
-use Rattle.query.proofs.Prices.{sending-most}
-use Rattle.routes.specs.Least.{Best, better, best, least, lowestAt}
-use Rattle.routes.specs.Routes.{routeCost, lastSite, bySends, cheapestRoute, fewestSends, nextSite, stops, carriage, dearestCarriage}
-use Rattle.routes.specs.Theorems.{AllBelow, NoneCheaper, NoneShorter, RouteTaken, Onward}
-use Rattle.routes.proofs.Costs.{none-some, some-same, at-most-is, at-most-more, Two, both-found, plus-most}
-use Rattle.routes.proofs.Least.{least-most, least-found, lowest-most}
-
--- A cost that is at most a number is a number.
-pub number : (c : Cost) (x : ℕ) → AtMost c x → (y : ℕ) × ((c ≡ some y) × (y ≤ x))
-number none x h = absurd h
-number (some y) x h = (y, (refl, h))
-
--- It is at most a number, or it is not.
-pub at-most-or : (c : Cost) (x : ℕ) → AtMost c x ⊎ (AtMost c x → ⊥)
-at-most-or none x = inr (λ h. h)
-at-most-or (some y) x = go (leb y x) refl
-  where
-    go : (t : Bool) → leb y x ≡ t → (y ≤ x) ⊎ (y ≤ x → ⊥)
-    go true e = inl (leb-true y x e)
-    go false e = inr (λ h. omega (arith, leb-false y x e))
-
--- A candidate that is at most a number, where the least is.
-pub some-candidate : (f : ℕ → Cost) (m x : ℕ) → AtMost (least f m) x → (i : ℕ) × ((i < m) × AtMost (f i) x)
-some-candidate f m x h =
-    let found = number (least f m) x h in
-    let there = least-found f m (found .0) (found .1 .0) in
-    (lowestAt f m, (there .0, at-most-is (f (lowestAt f m)) (found .0) x (there .1) (found .1 .1)))
-
--- More candidates are no dearer.
-pub least-longer : (f : ℕ → Cost) (m n x : ℕ) → m ≤ n → AtMost (least f m) x → AtMost (least f n) x
-least-longer f m n x l h =
-    let there = some-candidate f m x h in
-    least-most f n (there .0) x (omega (arith, there .1 .0)) (there .1 .1)
-
--- Nothing is sent where it stays, and no send leads elsewhere.
-pub none-sent : (line : ℕ → ℕ → Cost) (s k t x : ℕ) → bySends line s 0 k t ≡ some x → (k ≡ t) × (x ≡ 0)
-unfolding bySends
-none-sent line s k t x e = go (eqb k t) refl e
-  where
-    go : (b : Bool) → eqb k t ≡ b → pick b (some 0) none ≡ some x → (k ≡ t) × (x ≡ 0)
-    go true h e = (eqb-true k t h, sym (some-same 0 x e))
-    go false h e = absurd (none-some x e)
-
-pub stays-there : (line : ℕ → ℕ → Cost) (s k : ℕ) → bySends line s 0 k k ≡ some 0
-unfolding bySends
-stays-there line s k = rw (eq-eqb k k refl)
+use Rattle.query.specs.Cost.{Cost, some, plus, AtMost}
+use Rattle.routes.specs.Least.{least, lowestAt}
+use Rattle.routes.specs.Routes.{routeCost, lastSite, bySends, cheapestRoute, fewestSends, nextSite}
+use Rattle.routes.specs.Theorems.{AllBelow, NoneCheaper, NoneShorter, Onward}
+use Rattle.routes.proofs.Costs.{at-most-is, at-most-more, Two, both-found, number, at-most-or}
+use Rattle.routes.proofs.Least.{least-most, least-found, lowest-most, some-candidate, least-longer}
+use Rattle.routes.proofs.Sends.{none-sent, stays-there, by-way, first-send}
 
 module _ (line : ℕ → ℕ → Cost) (s t : ℕ) where
-  -- By way of m: a send to m and i sends on from there.
-  pub by-way : (i k m x y : ℕ) → m < s → AtMost (line k m) x → AtMost (bySends line s i m t) y → AtMost (bySends line s (suc i) k t) (x + y)
-  unfolding bySends
-  by-way i k m x y l h g =
-      least-most (λ m. plus (line k m) (bySends line s i m t)) s m (x + y) l (plus-most (line k m) (bySends line s i m t) x y h g)
-
-  -- The first send of a route.
-  pub first-send : (i k x : ℕ) → bySends line s (suc i) k t ≡ some x →
-      (nextSite line s i k t < s) × Two _+_ (line k (nextSite line s i k t)) (bySends line s i (nextSite line s i k t) t) x
-  unfolding bySends nextSite
-  first-send i k x e =
-      let found = least-found (λ m. plus (line k m) (bySends line s i m t)) s x e in
-      (found .0, both-found _+_ _ _ x (found .1))
-
   -- The sites that a route of i sends for x goes through: one more than sends, and from each of them t is reached for no more by no more sends.
   record Through (i x : ℕ) : Type 0 where
     sites : ℕ
@@ -111,7 +50,7 @@ module _ (line : ℕ → ℕ → Cost) (s t : ℕ) where
   -- A route that is cheaper than all of fewer sends: so is what is left of it after its first send, and its first site is none of the others.
   module _ (i k x : ℕ) (l : k < s) (e : bySends line s (suc i) k t ≡ some x) (fresh : AtMost (least (λ j. bySends line s j k t) (suc i)) x → ⊥) where
     way : (nextSite line s i k t < s) × Two _+_ (line k (nextSite line s i k t)) (bySends line s i (nextSite line s i k t) t) x
-    way = first-send i k x e
+    way = first-send line s t i k x e
 
     rest-fresh : AtMost (least (λ j. bySends line s j (nextSite line s i k t) t) i) (way .1 .other) → ⊥
     rest-fresh h =
@@ -120,7 +59,7 @@ module _ (line : ℕ → ℕ → Cost) (s t : ℕ) where
         fresh
         (least-most (λ j. bySends line s j k t) (suc i) (suc (there .0)) x (omega (arith, there .1 .0))
         (at-most-more (bySends line s (suc (there .0)) k t) (way .1 .one + way .1 .other) x (omega (arith, way .1 .made))
-        (by-way (there .0) k m (way .1 .one) (way .1 .other) (way .0) (at-most-is (line k m) (way .1 .one) (way .1 .one) (way .1 .one-is) (le-refl _)) (there .1 .1))))
+        (by-way line s t (there .0) k m (way .1 .one) (way .1 .other) (way .0) (at-most-is (line k m) (way .1 .one) (way .1 .one) (way .1 .one-is) (le-refl _)) (there .1 .1))))
 
     goes-through : Through i (way .1 .other) → Through (suc i) x
     goes-through before =
@@ -225,77 +164,3 @@ unfolding cheapestRoute
 onward line s k m t x y lk lm lt h g =
     let there = some-candidate (λ i. bySends line s i k m) s x h in
     none-cheaper-up-to line s t (suc (suc (there .0))) (suc (there .0)) k (x + y) (le-refl _) lk (longer line s (there .0) k m t x y lt (there .1 .1) g)
-
--- Where it stays it costs nothing.
-pub stays : (line : ℕ → ℕ → Cost) (s k : ℕ) → k < s → cheapestRoute line s k k ≡ some 0
-unfolding cheapestRoute
-stays line s k l =
-    let least-is = number (least (λ i. bySends line s i k k) s) 0 (least-most (λ i. bySends line s i k k) s 0 0 (omega arith) (at-most-is (bySends line s 0 k k) 0 0 (stays-there line s k) (le-refl _))) in
-    let nothing : least-is .0 ≡ 0 = omega (arith, least-is .1 .1) in
-    least-is .1 .0 ∙ ap some nothing
-
--- The route's sends: as many as the fewest, fewer than s, and together they cost the cheapest.
-pub fewest : (line : ℕ → ℕ → Cost) (s k t c : ℕ) → cheapestRoute line s k t ≡ some c →
-    (fewestSends line s k t < s) × (bySends line s (fewestSends line s k t) k t ≡ some c)
-unfolding cheapestRoute fewestSends
-fewest line s k t c e = least-found (λ i. bySends line s i k t) s c e
-
-pub stops-long : (line : ℕ → ℕ → Cost) (s i k t : ℕ) → length (stops line s i k t) ≡ i
-unfolding stops
-stops-long line s zero k t = refl
-stops-long line s (suc i) k t = ap suc (stops-long line s i (nextSite line s i k t) t)
-
--- They lead to t, over listed sites.
-stops-lead : (line : ℕ → ℕ → Cost) (s i k t c : ℕ) → bySends line s i k t ≡ some c →
-    AllBelow s (stops line s i k t) × ((lastSite k (stops line s i k t) ≡ t) × (routeCost line k (stops line s i k t) ≡ some c))
-unfolding stops routeCost
-stops-lead line s zero k t c e = let w = none-sent line s k t c e in (tt, (w .0, ap some (sym (w .1))))
-stops-lead line s (suc i) k t c e =
-    let way = first-send line s t i k c e in
-    let m : ℕ = nextSite line s i k t in
-    let on = stops-lead line s i m t (way .1 .other) (way .1 .other-is) in
-    ((way .0, on .0), (on .1 .0, rw (way .1 .one-is, on .1 .1) (ap some (sym (way .1 .made)))))
-
-pub route-taken : RouteTaken
-route-taken line s k t c e =
-    let found = fewest line s k t c e in
-    let i : ℕ = fewestSends line s k t in
-    let lead = stops-lead line s i k t c (found .1) in
-    record {
-      listed = lead .0;
-      there = lead .1 .0;
-      cost = lead .1 .1;
-      sends = stops-long line s i k t;
-      few = omega (arith, found .0, stops-long line s i k t);
-    }
-
--- Where it stays, no send is due.
-best-nothing : (f : ℕ → Cost) (m : ℕ) → f 0 ≡ some 0 → best f (suc m) ≡ record { cost = some 0; at = 0 }
-unfolding best
-best-nothing f zero e = rw e
-best-nothing f (suc m) e = rw (best-nothing f m e) (go (f (suc m)))
-  where
-    go : (c : Cost) → better c (suc m) (record { cost = some 0; at = 0 }) (some 0) ≡ record { cost = some 0; at = 0 }
-    go none = refl
-    go (some c) = rw (le-ltb c 0 zero-le)
-
-pub stays-unsent : (line : ℕ → ℕ → Cost) (s k : ℕ) → k < s → fewestSends line s k k ≡ 0
-unfolding fewestSends
-stays-unsent line zero k l = absurd (omega arith)
-stays-unsent line (suc s) k l = ap (λ (b : Best). b .at) (best-nothing (λ i. bySends line (suc s) i k k) s (stays-there line (suc s) k))
-
--- A route whose sends each cost at most d costs at most d a send.
-pub sends-most : (line : ℕ → ℕ → Cost) (s d : ℕ) → ((a b c : ℕ) → line a b ≡ some c → c ≤ d) → (i k t c : ℕ) → bySends line s i k t ≡ some c → c ≤ i * d
-sends-most line s d most zero k t c e = omega (arith, none-sent line s k t c e .1)
-sends-most line s d most (suc i) k t c e =
-    let way = first-send line s t i k c e in
-    let m : ℕ = nextSite line s i k t in
-    omega (arith, suc-mul i d, way .1 .made, most k m (way .1 .one) (way .1 .one-is), sends-most line s d most i m t (way .1 .other) (way .1 .other-is))
-
--- So no carriage is above the dearest one.
-pub carriage-most : (q : Query) → Valid q → (P k t c : ℕ) → carriage q P k t ≡ some c → c ≤ dearestCarriage
-carriage-most q v P k t c e =
-    let found = fewest (sending q P) (sitesOf q) k t c e in
-    let i : ℕ = fewestSends (sending q P) (sitesOf q) k t in
-    let few : i ≤ 7 = omega (arith, found .0, v .sites-most) in
-    omega (arith, sends-most (sending q P) (sitesOf q) dearestLine (λ a b x h. sending-most q v P a b x h) i k t c (found .1))
