@@ -15,7 +15,7 @@ use Rattle.relations.proofs.Counts.{ones-mono, ones-pow, ones-more}
 use Rattle.query.specs.Cost.{Cost, some, plus, AtMost}
 use Rattle.routes.specs.Least.{least, lowestAt}
 use Rattle.routes.specs.Routes.{routeCost, lastSite, bySends, cheapestRoute, fewestSends, nextSite}
-use Rattle.routes.specs.Theorems.{AllBelow, NoneCheaper, NoneShorter, Onward}
+use Rattle.routes.specs.Theorems.{AllBelow, NoneCheaper, NoneShorter, ToAndFro, Onward}
 use Rattle.routes.proofs.Costs.{at-most-is, at-most-more, Two, both-found, number, at-most-or}
 use Rattle.routes.proofs.Least.{least-most, least-found, lowest-most, some-candidate, least-longer}
 use Rattle.routes.proofs.Sends.{none-sent, stays-there, by-way, first-send}
@@ -164,3 +164,13 @@ unfolding cheapestRoute
 onward line s k m t x y lk lm lt h g =
     let there = some-candidate (λ i. bySends line s i k m) s x h in
     none-cheaper-up-to line s t (suc (suc (there .0))) (suc (there .0)) k (x + y) (le-refl _) lk (longer line s (there .0) k m t x y lt (there .1 .1) g)
+
+-- Used where a route has more sends than there are sites.
+pub to-and-fro : (line : ℕ → ℕ → Cost) → ToAndFro line
+to-and-fro line = record { no-cheaper = λ x h. none-cheaper line 2 0 tour x (omega arith) listed h; no-shorter = λ c e h. none-shorter line 2 0 tour c (omega arith) listed e h }
+  where
+    tour : List ℕ
+    tour = 1 ∷ 0 ∷ 1 ∷ 0 ∷ 1 ∷ []
+
+    listed : AllBelow 2 tour
+    listed = (omega arith, (omega arith, (omega arith, (omega arith, (omega arith, tt)))))

@@ -39,3 +39,8 @@ abbrev pub Onward : Type 0
 Onward =
     (line : ℕ → ℕ → Cost) (s k m t x y : ℕ) → k < s → m < s → t < s → AtMost (cheapestRoute line s k m) x → AtMost (line m t) y →
     AtMost (cheapestRoute line s k t) (x + y)
+
+-- Both of a route with more sends than there are sites, five to and fro between two: no limit on sends stands in either.
+pub record ToAndFro (line : ℕ → ℕ → Cost) : Type 0 where
+  pub no-cheaper : (x : ℕ) → AtMost (routeCost line 0 (1 ∷ 0 ∷ 1 ∷ 0 ∷ 1 ∷ [])) x → AtMost (cheapestRoute line 2 0 1) x
+  pub no-shorter : (c : ℕ) → cheapestRoute line 2 0 1 ≡ some c → AtMost (routeCost line 0 (1 ∷ 0 ∷ 1 ∷ 0 ∷ 1 ∷ [])) c → fewestSends line 2 0 1 ≤ 5

@@ -6,8 +6,8 @@ use Rattle.query.specs.Cost.{Cost, none, some}
 use Rattle.rules.specs.Allowed.{AllowedAt}
 use Rattle.tables.specs.Tables.{cheapest}
 use Rattle.tables.specs.Written.{written}
-use Rattle.tables.specs.Theorems.{NoRouteLaw}
-use Rattle.tables.proofs.Lower.{cheapest-law}
+use Rattle.tables.specs.Theorems.{NoRouteLaw, NoneAtAll}
+use Rattle.tables.proofs.Lower.{any-steps-law, cheapest-law}
 use Rattle.tables.proofs.Upper.{written-law}
 
 pub no-route-law : NoRouteLaw
@@ -19,3 +19,6 @@ no-route-law combine laws q v = (no-plan, no-number (cheapest combine q) refl)
     no-number : (a : Cost) → cheapest combine q ≡ a → ((plan : List ℕ) (c : ℕ) → AllowedAt combine q plan c → ⊥) → a ≡ none
     no-number none e none-allowed = refl
     no-number (some c) e none-allowed = absurd (none-allowed (written combine q) c (written-law combine laws q v c e .allowed))
+
+pub none-at-all : NoneAtAll
+none-at-all combine laws q v e steps c run = rw e at (any-steps-law combine laws q v steps c run)

@@ -50,6 +50,11 @@ abbrev pub NoRouteLaw : Type 0
 NoRouteLaw =
     (combine : ℕ → ℕ → ℕ) → Combines combine → (q : Query) → Valid q → (cheapest combine q ≡ none) ↔ ((plan : List ℕ) (c : ℕ) → AllowedAt combine q plan c → ⊥)
 
+-- No route means that none exists: where it is none, no steps keep the rules, of whatever number they are.
+abbrev pub NoneAtAll : Type 0
+NoneAtAll =
+    (combine : ℕ → ℕ → ℕ) → Combines combine → (q : Query) → Valid q → cheapest combine q ≡ none → (steps : List Step) (c : ℕ) → RunAt combine q steps c → ⊥
+
 -- What no plan costs more than: the most steps over nine relations are 9 loads, 8 joins and 119 sends, each at its dearest.
 abbrev pub mostCost : ℕ
 mostCost = 38_875_127_000_000
