@@ -6,7 +6,7 @@ ghost use Rattle.board.specs.Figures.{none_mark, lesser, better_of};
 pub const NONE: u64 = 1152921504606846976;
 
 // A figure and the place where it was found.
-#[derive(Drop)]
+#[derive(Clone, Copy)]
 pub struct Choice {
     pub figure: u64,
     pub at: usize,

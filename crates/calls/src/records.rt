@@ -6,7 +6,7 @@ use crate::{answers, input, lent};
 use planner::{AfterLoad, Planner};
 
 // The planner after a record, whether the run goes on, and whether the answer was written.
-#[derive(Drop)]
+#[derive(Clone, Copy)]
 pub(crate) struct After {
     pub planner: Planner,
     pub more: bool,

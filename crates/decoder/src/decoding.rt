@@ -17,7 +17,7 @@ use sections::{
 use subqueries::{count_subqueries, join_table};
 
 // A decoded file: the query and its number of subqueries, or a refusal and nothing else.
-#[derive(Drop)]
+#[derive(Clone, Copy)]
 pub struct Decoded {
     pub outcome: Outcome,
     pub query: Query,

@@ -6,7 +6,7 @@ mod sizes;
 pub use decoding::{Decoded, decode};
 
 // Which sections a file has between Joins and Lines: the sizes of its subqueries, or row counts and divisors from which they are worked out.
-#[derive(Drop)]
+#[derive(Clone, Copy)]
 pub enum Form {
     Sizes,
     Rows,

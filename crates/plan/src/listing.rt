@@ -9,7 +9,7 @@ use planner::{CELLS, LONGEST_PLAN, LoadAnswer, Planner, SolveAnswer};
 use relations::wide;
 
 // How many lines a listing has, and whether all of them were written.
-#[derive(Drop)]
+#[derive(Clone, Copy)]
 pub(crate) struct Listed {
     pub lines: usize,
     pub written: bool,

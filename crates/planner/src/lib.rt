@@ -11,7 +11,7 @@ pub use rules::LONGEST_PLAN;
 pub const CELLS: usize = 2112;
 
 // The standing state. Its fields are private, so that only the calls make one.
-#[derive(Drop)]
+#[derive(Clone, Copy)]
 pub struct Planner {
     // Whether a query stands, and the query.
     loaded: bool,
@@ -21,21 +21,21 @@ pub struct Planner {
 }
 
 // What a load answers: the number of relations and of subqueries, or the refusal's number.
-#[derive(Drop)]
+#[derive(Clone, Copy)]
 pub enum LoadAnswer {
     Loaded { relations: u64, subqueries: u64 },
     Refused(u64),
 }
 
 // What link answers.
-#[derive(Drop)]
+#[derive(Clone, Copy)]
 pub enum LinkAnswer {
     Linked,
     Refused(u64),
 }
 
 // What solve answers: the written plan's cost and its length in bytes, or no route; and the trials.
-#[derive(Drop)]
+#[derive(Clone, Copy)]
 pub enum SolveAnswer {
     Found {
         cost: Charge,
@@ -49,20 +49,20 @@ pub enum SolveAnswer {
 }
 
 // What check answers: the plan's cost, or the refusal's number and place.
-#[derive(Drop)]
+#[derive(Clone, Copy)]
 pub enum CheckAnswer {
     Accepted { cost: Charge },
     Refused { number: u64, place: u64 },
 }
 
 // An answer beside the planner that the call leaves.
-#[derive(Drop)]
+#[derive(Clone, Copy)]
 pub struct AfterLoad {
     pub answer: LoadAnswer,
     pub planner: Planner,
 }
 
-#[derive(Drop)]
+#[derive(Clone, Copy)]
 pub struct AfterLink {
     pub answer: LinkAnswer,
     pub planner: Planner,

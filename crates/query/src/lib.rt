@@ -9,19 +9,19 @@ pub use zeros::{no_joins, no_lines, no_query, no_relations, no_sites};
 pub mod price;
 
 // A count of bytes: a size. A join charges by it.
-#[derive(Drop)]
+#[derive(Clone, Copy)]
 pub struct Bytes(pub u64);
 
 // A count of parcels of 8 bytes. A line charges by it.
-#[derive(Drop)]
+#[derive(Clone, Copy)]
 pub struct Parcels(pub u64);
 
 // A count of charge units: a price or a cost.
-#[derive(Drop)]
+#[derive(Clone, Copy)]
 pub struct Charge(pub u64);
 
 // The sites: whether each may join (1) or not (0), and its join's fixed amount and rate.
-#[derive(Drop)]
+#[derive(Clone, Copy)]
 pub struct Sites {
     pub count: usize,
     pub may: [u8; 8],
@@ -30,7 +30,7 @@ pub struct Sites {
 }
 
 // The relations: the home of each, and whether it has its index flag set (1) or not (0).
-#[derive(Drop)]
+#[derive(Clone, Copy)]
 pub struct Relations {
     pub count: usize,
     pub home: [u8; 9],
@@ -38,7 +38,7 @@ pub struct Relations {
 }
 
 // The lines: that from site a to site b stands at 8 * a + b. Flag 1 is open, 0 closed.
-#[derive(Drop)]
+#[derive(Clone, Copy)]
 pub struct Lines {
     pub flag: [u8; 64],
     pub fixed: [u32; 64],
@@ -46,7 +46,7 @@ pub struct Lines {
 }
 
 // A query. The size of subquery S stands at S; where S is no subquery the size is 0.
-#[derive(Drop)]
+#[derive(Clone, Copy)]
 pub struct Query {
     pub sites: Sites,
     pub relations: Relations,

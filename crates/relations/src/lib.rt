@@ -18,7 +18,7 @@ pub use widening::wide;
 pub const SETS: usize = 512;
 
 // The joins of a query: join e links relations first[e] and second[e], for e below count.
-#[derive(Drop)]
+#[derive(Clone, Copy)]
 pub struct Joins {
     pub count: usize,
     pub first: [u8; 8],

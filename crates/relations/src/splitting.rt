@@ -3,7 +3,7 @@ ghost use Rattle.std.specs.Prelude.{◌≡◌};
 ghost use Rattle.relations.specs.Splits.{parts_by};
 
 // The part with the join's first relation, and the part with its second.
-#[derive(Drop)]
+#[derive(Clone, Copy)]
 pub struct Parts {
     pub first: usize,
     pub second: usize,

@@ -5,7 +5,7 @@ mod telling;
 pub use telling::room;
 
 // What room answers: the number of subqueries, the cells, one for each subquery and site, and the trials; or the refusal's number.
-#[derive(Drop)]
+#[derive(Clone, Copy)]
 pub enum RoomAnswer {
     Figures {
         subqueries: u64,

@@ -17,14 +17,14 @@ pub const MOST_STEPS: usize = 136;
 pub const LONGEST_PLAN: usize = 1 + 2 * MOST_STEPS;
 
 // A step: its kind and its argument.
-#[derive(Drop)]
+#[derive(Clone, Copy)]
 pub struct Step {
     pub kind: usize,
     pub arg: usize,
 }
 
 // What a step can name: the listed sites, relations and joins.
-#[derive(Drop)]
+#[derive(Clone, Copy)]
 pub struct Listed {
     pub sites: Sites,
     pub relations: Relations,
@@ -32,7 +32,7 @@ pub struct Listed {
 }
 
 // What a held result is: a bare relation, a sent result or a joined result.
-#[derive(Drop)]
+#[derive(Clone, Copy)]
 pub enum Origin {
     Bare,
     Sent,
@@ -40,7 +40,7 @@ pub enum Origin {
 }
 
 // A held result: its set of relations, the site where it stands, what it is, and what it has cost so far.
-#[derive(Drop)]
+#[derive(Clone, Copy)]
 pub struct Held {
     pub set: usize,
     pub site: usize,
@@ -49,35 +49,35 @@ pub struct Held {
 }
 
 // The held results: depth of them, the top last. Each relation is loaded at most once, so nine are enough.
-#[derive(Drop)]
+#[derive(Clone, Copy)]
 pub struct Stack {
     pub held: [Held; 9],
     pub depth: usize,
 }
 
 // The relations loaded so far, as a set, and the held results.
-#[derive(Drop)]
+#[derive(Clone, Copy)]
 pub struct State {
     pub loaded: usize,
     pub stack: Stack,
 }
 
 // A step goes, or is refused with its number.
-#[derive(Drop)]
+#[derive(Clone, Copy)]
 pub enum Outcome {
     Went,
     Refused(u64),
 }
 
 // A step's outcome, and the state after it: where the step is refused, the state before it.
-#[derive(Drop)]
+#[derive(Clone, Copy)]
 pub struct Stepped {
     pub outcome: Outcome,
     pub state: State,
 }
 
 // A plan is accepted at its cost, or rejected with the refusal's number and place.
-#[derive(Drop)]
+#[derive(Clone, Copy)]
 pub enum Checked {
     Accepted(Charge),
     Rejected { number: u64, place: u64 },

@@ -6,14 +6,14 @@ use crate::{Held, Origin, Stack};
 use query::Charge;
 
 // The top, and what is left below it.
-#[derive(Drop)]
+#[derive(Clone, Copy)]
 pub struct Popped {
     pub top: Held,
     pub rest: Stack,
 }
 
 // The top two, and what is left below them.
-#[derive(Drop)]
+#[derive(Clone, Copy)]
 pub struct PoppedTwo {
     pub top: Held,
     pub next: Held,

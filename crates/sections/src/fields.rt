@@ -4,7 +4,7 @@ ghost use Rattle.sections.specs.Fields.{number, field, count_field, byte_below, 
 ghost use Rattle.sections.specs.Code.{field_of, fault_of};
 
 // What a field holds, or the number of its refusal.
-#[derive(Drop)]
+#[derive(Clone, Copy)]
 pub enum Field {
     Value(u64),
     Refused(u64),

@@ -11,14 +11,14 @@ pub const MOST_FIXED: u64 = 1000000;
 pub const MOST_RATE: u64 = 1000;
 
 // A flag, a fixed amount and a rate, each in a type that its limit fits, or the number of the first refusal.
-#[derive(Drop)]
+#[derive(Clone, Copy)]
 pub enum TermsRead {
     Terms { flag: u8, fixed: u32, rate: u32 },
     Refused(u64),
 }
 
 // Two bytes, or the number of the first refusal.
-#[derive(Drop)]
+#[derive(Clone, Copy)]
 pub enum TwoRead {
     Two { one: u8, other: u8 },
     Refused(u64),

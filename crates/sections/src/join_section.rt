@@ -9,7 +9,7 @@ use crate::sections::Outcome;
 use query::no_joins;
 use relations::Joins;
 
-#[derive(Drop)]
+#[derive(Clone, Copy)]
 pub struct JoinsRead {
     pub outcome: Outcome,
     pub used: usize,

@@ -8,7 +8,7 @@ use crate::items::{TermsRead, read_terms, terms_fault};
 use crate::sections::{Ended, Outcome};
 use query::{Lines, no_lines};
 
-#[derive(Drop)]
+#[derive(Clone, Copy)]
 pub struct LinesRead {
     pub outcome: Outcome,
     pub used: usize,

@@ -8,35 +8,35 @@ use crate::items::{TermsRead, TwoRead, read_terms, read_two, terms_fault, two_fa
 use query::{Relations, Sites, no_relations, no_sites};
 
 // How a section's reading ended: with all of it, or with the number of the first refusal.
-#[derive(Drop)]
+#[derive(Clone, Copy)]
 pub enum Outcome {
     Whole,
     Refused(u64),
 }
 
 // How the reading into a list that is lent ended, and how many bytes it used.
-#[derive(Drop)]
+#[derive(Clone, Copy)]
 pub struct Ended {
     pub outcome: Outcome,
     pub used: usize,
 }
 
 // What each section's reading gives: how it ended, how many bytes it used, and what it read.
-#[derive(Drop)]
+#[derive(Clone, Copy)]
 pub struct SitesRead {
     pub outcome: Outcome,
     pub used: usize,
     pub sites: Sites,
 }
 
-#[derive(Drop)]
+#[derive(Clone, Copy)]
 pub struct RelationsRead {
     pub outcome: Outcome,
     pub used: usize,
     pub relations: Relations,
 }
 
-#[derive(Drop)]
+#[derive(Clone, Copy)]
 pub struct DeliveryRead {
     pub outcome: Outcome,
     pub used: usize,

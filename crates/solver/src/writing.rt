@@ -74,7 +74,7 @@ pub(crate) fn cheapest<'a>(
 }
 
 // What is due: a figure, which a set costs at a site.
-#[derive(Drop)]
+#[derive(Clone, Copy)]
 pub struct Due {
     pub figure: u64,
     pub set: usize,
