@@ -115,8 +115,8 @@ module _ (n : ℕ) (some : 1 ≤ n) where
                 ap (bit grown) g,
               )
 
-  pub star_of : Star (star_of n) n
-  star_of = record {
+  pub star_of_lem : Star (star_of n) n
+  star_of_lem = record {
     tree = record {
       joins = omega arith;
       first_in = λ e l. omega (arith, from_middle e l);

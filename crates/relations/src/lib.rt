@@ -1,6 +1,8 @@
 // Sets of relations, the joins between them, growth along joins, and the two parts of a subquery.
 // In reading order: member (sets), masks (the joins as sets), growing (growth along them), tree (the tree test and the sides of
 // the joins), splitting (the two parts).
+#![tactic(auto)]
+
 mod growing;
 mod masks;
 mod member;

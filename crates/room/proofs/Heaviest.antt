@@ -13,7 +13,7 @@ use Rattle.relations.specs.Code.{or_none}
 use Rattle.relations.proofs.Counts.{ones_zero, ones_pow}
 use Rattle.relations.proofs.Sums.{sum, sum_none, sum_ones, sum_same, sum_add, sum_pairs}
 use Rattle.relations.proofs.Weights.{weight, weighed_most}
-use Rattle.relations.proofs.Stars.{star_weighs, star_of}
+use Rattle.relations.proofs.Stars.{star_weighs, star_of_lem}
 use Rattle.relations.proofs.SubqueriesMost.{subqueries_most, star_subqueries}
 use Rattle.query.specs.Choice.{pick}
 use Rattle.tables.specs.Tables.{joins_below}
@@ -83,5 +83,5 @@ heaviest_law n two = record {
   trials_most = λ J t s. omega (arith, mul-le-mul_left s (joins_most n two J t), mul_assoc s (n - 1) (2 ^ (n - 2)));
   star_subqueries = λ J s. star_subqueries J n s (omega (arith, s.tree.joins)) ∙ all_sets n two J s.tree.joins;
   star_trials = λ J star s. omega (arith, ap (λ (x : ℕ). s * x) (star_joins n two J star), mul_assoc s (n - 1) (2 ^ (n - 2)));
-  some_star = star_of n (omega arith);
+  some_star = star_of_lem n (omega arith);
 }

@@ -1,4 +1,6 @@
 // What a query needs, told before it is run: from the numbers of its relations and sites and its joins alone.
+#![tactic(auto)]
+
 mod counting;
 mod telling;
 
