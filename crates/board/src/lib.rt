@@ -1,5 +1,7 @@
 // The query as the loops of a solve take it: laid out once on a board, in rows of eight lanes, a lane a site.
 // In reading order: figures (what a figure is, and none), lanes (what stands where on the board), laying (how it gets there).
+#![tactic(auto)]
+
 mod figures;
 mod lanes;
 mod laying;

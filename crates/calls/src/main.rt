@@ -1,4 +1,6 @@
 // Runs a script of calls from standard input, one after the other on one planner, and prints a line each.
+#![tactic(auto)]
+
 mod answers;
 mod input;
 mod lent;

@@ -1,4 +1,6 @@
 // The decoder of a query's file: the sizes of its subqueries by its form, and the whole file.
+#![tactic(auto)]
+
 mod decoding;
 mod rows;
 mod sizes;

@@ -1,4 +1,6 @@
 // The call for the report server, which is written in C and hands over bytes.
+#![tactic(auto)]
+
 ghost use Rattle.std.specs.Prelude.{◌≤◌, ◌≡◌, length};
 ghost use Rattle.planner.specs.Solve.{needed};
 ghost use Rattle.planner.specs.Code.{state_of, Sound};

@@ -1,4 +1,6 @@
 // Reads a query file on standard input and prints its cheapest plan, no route, or the refusal.
+#![tactic(auto)]
+
 mod listing;
 
 use libc::{STDERR_FILENO, STDIN_FILENO};

@@ -1,4 +1,6 @@
 // The planner: the standing state, the two loads, and the calls link, solve and check.
+#![tactic(auto)]
+
 mod calls;
 mod loads;
 

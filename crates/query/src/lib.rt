@@ -1,4 +1,6 @@
 // The query and its prices.
+#![tactic(auto)]
+
 mod amounts;
 mod zeros;
 

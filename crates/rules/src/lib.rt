@@ -1,4 +1,6 @@
 // The plan rules: the stack machine (rules 4.1 to 4.7), and the checker that runs a plan on it.
+#![tactic(auto)]
+
 use query::{Charge, Relations, Sites};
 use relations::Joins;
 

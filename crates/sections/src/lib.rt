@@ -1,5 +1,7 @@
 // The sections that a query's file has in either form, each read by itself, with the fields and items that they are made of.
 // In reading order: fields, items, sections (Sites, Relations, Delivery), join_section, line_section.
+#![tactic(auto)]
+
 mod fields;
 mod items;
 mod join_section;

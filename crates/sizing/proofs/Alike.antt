@@ -1,6 +1,6 @@
 -- Two subqueries whose first steps are alike have the same relations taken, and the same size, as far as that goes. So it is with what a subquery has
 -- taken after some steps, as a subquery by itself: the worked size of a subquery is one step from that of the one without its last relation.
-use Prim.Native.Nat.{ℕ, zero, suc, ◌-◌, ◌≤◌, ◌<◌}
+use Prim.Native.Nat.{ℕ, zero, suc, ◌≤◌, ◌<◌}
 use native.Mathlib.Omega.{arith}
 use mathlib.Core.Path.{◌≡◌, ap, ◌∙◌}
 use mathlib.Core.List.{List}

@@ -1,4 +1,6 @@
 // Sizes worked out from row counts.
+#![tactic(auto)]
+
 mod joining;
 mod neighbours;
 mod working;

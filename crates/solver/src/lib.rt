@@ -1,4 +1,6 @@
 // Solving a query: the cells are filled over its board, and the cheapest plan, its cost and the trials are read off them, or no route.
+#![tactic(auto)]
+
 mod writing;
 
 ghost use Rattle.std.specs.Prelude.{◌+◌, ◌≤◌, ◌≡◌, length, drop};

@@ -1,5 +1,7 @@
 // What every set of relations holds, and which of the sets are subqueries.
 // In reading order: table (what every set holds), subquery (how many sets are subqueries).
+#![tactic(auto)]
+
 mod subquery;
 mod table;
 

@@ -1,4 +1,6 @@
 // For the benchmark: many solves of one query on one planner, and many loads of one file.
+#![tactic(auto)]
+
 ghost use Rattle.std.specs.Prelude.{◌≤◌, ◌≡◌};
 ghost use Rattle.planner.specs.Load.{load, load_rows};
 ghost use Rattle.planner.specs.Code.{state_of, of_solve, Sound};
