@@ -28,14 +28,14 @@ module _ (J : Joins) (l : List ℕ) (S tried e : ℕ) (t : Tabled J l) (so : tri
       (ones_pos S some, ones-le 9 S low, omega (arith, joins_below_lem J (J.count + 1) S (omega arith)))
 
   module _ (d : Bool) (test : d ≡ is_connected (get_or l S 0)) where
-    is_subquery : d ≡ is_subquery J (J.count + 1) S
-    is_subquery = tested J l S e d t test below end
+    is_subquery_lem : d ≡ is_subquery J (J.count + 1) S
+    is_subquery_lem = tested J l S e d t test below end
 
     pub turn_in : d ≡ true → tried + (ones S - 1) ≡ joins_below J (J.count + 1) (S + 1)
-    turn_in h = omega (arith, joins_next J (J.count + 1) S true (sym is_subquery ∙ h))
+    turn_in h = omega (arith, joins_next J (J.count + 1) S true (sym is_subquery_lem ∙ h))
 
     pub turn_out : d ≡ false → tried ≡ joins_below J (J.count + 1) (S + 1)
-    turn_out h = omega (arith, joins_next J (J.count + 1) S false (sym is_subquery ∙ h))
+    turn_out h = omega (arith, joins_next J (J.count + 1) S false (sym is_subquery_lem ∙ h))
 
 -- After the last set.
 pub all_counted : (J : Joins) (l : List ℕ) (S tried e : ℕ) → Tabled J l → tried ≡ joins_below J (J.count + 1) S → S ≤ e → e ≤ S → e ≡ 2 ^ (J.count + 1) →
