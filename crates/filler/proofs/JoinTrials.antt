@@ -1,6 +1,6 @@
 -- The trials of a subquery's joins show what the definitions charge for them: so the least of them at a site is Joined's figure there, and the lowest
 -- join of it is the best join.
-use Prim.Native.Nat.{ℕ, ◌+◌, ◌-◌, ◌≤◌, ◌<◌}
+use Prim.Native.Nat.{ℕ, ◌+◌, ◌≤◌, ◌<◌}
 use native.Mathlib.Nat.{le_refl}
 use native.Mathlib.Omega.{arith}
 use mathlib.Core.Path.{◌≡◌, refl, sym, ap, ◌∙◌}

@@ -61,8 +61,8 @@ module _ (combine : ℕ → ℕ → ℕ) (C : Combines combine) (b sizes table b
   laid_now : LaidOut q (lent b sizes places work)
   laid_now = record { valid = f.laid.valid; board = f.laid.board; sizes = f.laid.sizes }
 
-  is_subquery : d ≡ is_subquery q.joins (relations_of q) S
-  is_subquery = tested q.joins table S (2 ^ (q.joins.count + 1)) d f.table_is test low refl ∙ ap (λ (n : ℕ). is_subquery q.joins n S) f.laid.valid.tree.joins
+  is_subquery_lem : d ≡ is_subquery q.joins (relations_of q) S
+  is_subquery_lem = tested q.joins table S (2 ^ (q.joins.count + 1)) d f.table_is test low refl ∙ ap (λ (n : ℕ). is_subquery q.joins n S) f.laid.valid.tree.joins
 
   -- The joins counted so far are few, and so are the cells.
   pub ones_few : ones S ≤ 9
@@ -80,12 +80,12 @@ module _ (combine : ℕ → ℕ → ℕ) (C : Combines combine) (b sizes table b
       omega (arith, g.next_is, place_low q S (all (relations_of q)) (subqueries_law q.joins (relations_of q) v.tree).whole (omega arith), most_cells_lem q v)
 
   pub turn_skip : d ≡ false → Going combine q old work places (S + 1) next tried
-  turn_skip out = going_skip combine q f.laid.valid old work places S next tried g (sym is_subquery ∙ out)
+  turn_skip out = going_skip combine q f.laid.valid old work places S next tried g (sym is_subquery_lem ∙ out)
 
   -- A subquery: what filling its cells asks, and what it leaves.
   module _ (held : d ≡ true) where
     subquery : Subquery q.joins (relations_of q) S
-    subquery = sym is_subquery ∙ held
+    subquery = sym is_subquery_lem ∙ held
 
     pub relations_some : 1 ≤ ones S
     relations_some = ones_some q f.laid.valid S subquery
