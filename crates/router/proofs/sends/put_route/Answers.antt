@@ -1,0 +1,25 @@
+-- `sends::put_route` meets its contract: nothing where it stays, one send where the line costs the carriage, else the search decides. Assumes nothing.
+use native.Mathlib.Omega.{arith}
+use mathlib.Core.Path.{ap}
+use lib.ListN.{length}
+use Rattle.router.proofs.Stores.{wrote_none}
+use Rattle.router.proofs.Gates.{route_stays, direct_bytes}
+use Rattle.router.proofs.sends.put_route.Goals as goal
+
+pub returns-then-k-t : goal.returns-then-k-t
+returns-then-k-t c = rw (route_stays _ _ _ _ c.requires.carriable.1.0.0 c.if-k-t.true) (wrote_none _ _)
+
+pub line_at-sent-requires : goal.line_at-sent-requires
+line_at-sent-requires c = let p = c.requires.carriable in (p.0, (p.1.0.0, omega (arith, p.1.0.1, p.0.few)))
+
+-- Where the line costs the carriage.
+pub put-requires : goal.put-requires
+put-requires c =
+    let p = c.requires.carriable in
+    let bytes = direct_bytes _ _ _ _ _ _ p.1.0.0 p.1.0.1 c.if-k-t.false c.line_at-sent.ensures.0 c.if-sent-carried.true p.1.1 in
+    (omega (arith, c.requires.t_in_bounds, ap length bytes), omega (arith, p.1.0.1, p.0.few))
+
+pub returns-then-sent-carried : goal.returns-then-sent-carried
+returns-then-sent-carried c =
+    let p = c.requires.carriable in
+    rw (direct_bytes _ _ _ _ _ _ p.1.0.0 p.1.0.1 c.if-k-t.false c.line_at-sent.ensures.0 c.if-sent-carried.true p.1.1) c.put.ensures
