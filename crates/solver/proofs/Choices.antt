@@ -1,6 +1,6 @@
 -- The writer's choices: each turn of their loops weighs one site or one join more, a choice among the figures of a row is one among what the row was
 -- worked out from, and a query whose cells are filled gives all that the choices ask.
-use Prim.Native.Nat.{ℕ, zero, suc, ◌+◌, ◌-◌, ◌^◌, ◌≤◌, ◌<◌}
+use Prim.Native.Nat.{ℕ, zero, suc, ◌+◌, ◌^◌, ◌≤◌, ◌<◌}
 use native.Mathlib.Nat.{le_refl, le_antisymm, pow-suc}
 use native.Mathlib.Numerals.{add-one}
 use native.Mathlib.Omega.{arith}
@@ -83,10 +83,10 @@ within l S = joins_within l.board S (joins_at l.board)
 
 module _ (combine : ℕ → ℕ → ℕ) (l : Lent) (S : ℕ) where
   -- A choice among what a row holds is one among the figures that the row was worked out from.
-  pub site_by : (row : List ℕ) (joins x t r : ℕ) → joins ≡ within l S → AtSites (sites_at l.board) row (joined_in combine l joins S) → x ≡ size_in l S →
+  pub site_by_lem : (row : List ℕ) (joins x t r : ℕ) → joins ≡ within l S → AtSites (sites_at l.board) row (joined_in combine l joins S) → x ≡ size_in l S →
       r ≡ site_in (λ (k : ℕ). get_or row k 0) l.board x t → r ≡ site_by combine l S t
   unfolding site_trial
-  site_by row joins x t r joins_are lanes x_is is =
+  site_by_lem row joins x t r joins_are lanes x_is is =
       is ∙ place_same _ _ (sites_at l.board) (λ k m. rw (lanes.each k m, joins_are, x_is))
 
   -- The joins, one after the other: one that is not in the set changes nothing.
@@ -101,8 +101,8 @@ module _ (combine : ℕ → ℕ → ℕ) (l : Lent) (S : ℕ) where
     unfolding join_trial
     join_worse none = choice_same _ e kept c (rw (ne_eqb (bit joins e) 1 (λ h. none (is ∙ h))))
 
-  pub join_by : (joins k e : ℕ) (c : Choice) → joins ≡ within l S → ChoiceOf (join_trial combine l joins S k) e c → e ≤ 8 → 8 ≤ e → c.at ≡ join_by combine l S k
-  join_by joins k e c joins_are h le ge = rw (← joins_are) (choice_done (join_trial combine l joins S k) e 8 8 c h le ge refl).at_is
+  pub join_by_lem : (joins k e : ℕ) (c : Choice) → joins ≡ within l S → ChoiceOf (join_trial combine l joins S k) e c → e ≤ 8 → 8 ≤ e → c.at ≡ join_by combine l S k
+  join_by_lem joins k e c joins_are h le ge = rw (← joins_are) (choice_done (join_trial combine l joins S k) e 8 8 c h le ge refl).at_is
 
 -- What the choices ask of a query whose cells are filled.
 module _ (combine : ℕ → ℕ → ℕ) (C : Combines combine) (q : Query) (l : Lent) (S : ℕ) (k : Known combine q l S) where

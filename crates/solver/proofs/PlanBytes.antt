@@ -1,6 +1,6 @@
 -- What the writer writes at each call: the load of one relation, or the steps of the best join at the best site; the parts of a subquery before
 -- its join; and the sends that are due. Each written piece is the definition's.
-use Prim.Native.Nat.{ℕ, ◌+◌, ◌<◌}
+use Prim.Native.Nat.{ℕ, ◌<◌}
 use native.Mathlib.Omega.{arith}
 use mathlib.Core.Path.{◌≡◌, sym, ap, subst, ◌∙◌}
 use mathlib.Core.List.{List, [], ◌∷◌, ◌++◌}
