@@ -27,10 +27,7 @@ pub bounds-table-i : goal.bounds-table-i
 bounds-table-i c = omega (arith, c.requires.1.1.0, c.requires.0.few)
 
 pub overflow_add-sent : goal.overflow_add-sent
-overflow_add-sent c =
-    record {
-      fits = omega (arith, c.line_at-sent.ensures.1, c.requires.1.1.1.most (8 * c.args.i + c.loop-m.m) (omega (arith, c.requires.1.1.0, c.requires.0.few)));
-    }
+overflow_add-sent c = record { fits = omega (arith, c.line_at-sent.ensures.1, c.requires.1.1.0, c.requires.0.few, c.requires.1.1.1.most) }
 
 pub loop-m-preserved : goal.loop-m-preserved
 loop-m-preserved c = (

@@ -27,7 +27,7 @@ put_sends-requires t c =
       omega (arith, some, c.decreases),
       (
         (p.0, (routes_done _ _ _ _ _ _ (omega arith) p.1.0, (next_listed _ _ _ _ _ _ _ _ c.args.out.now p.1.0 some p.1.1.1 _ next refl room, omega (arith, p.1.1.1)))),
-        rest_room _ _ _ _ _ _ _ _ c.args.out.now p.1.0 some p.1.1.1 _ next refl room _ _ c.put-place.ensures,
+        omega (arith, c.put-place.ensures.next, rest_room _ _ _ _ _ _ _ _ c.args.out.now p.1.0 some p.1.1.1 _ next refl room _ _ c.put-place.ensures),
       ),
     )
 
