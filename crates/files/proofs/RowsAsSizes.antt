@@ -25,7 +25,7 @@ use Rattle.files.proofs.SectionLengths.{rows_take}
 use Rattle.files.proofs.Local.{Splits}
 use Rattle.files.proofs.LocalSections.{rows_local}
 use Rattle.files.proofs.InOrder.{Sections, sections_of, by_sections}
-use Rattle.files.proofs.Used.{used_length, sites, relations, joins, sites_length, relations_length, joins_length, before_sizes}
+use Rattle.files.proofs.Used.{used_length, sites, relations, joins, sites_length, relations_length, joins_length, before_sizes_lem}
 use Rattle.files.proofs.SizesWritten.{sizes_again}
 
 -- Sizes that were worked out from row counts and divisors stand at the subqueries.
@@ -66,7 +66,7 @@ module _ (file : List ℕ) (q : Query) (l : List ℕ) (v : Valid q) (p : Section
   used_rows = used_length _ _ p.joins_left q.sizes p.sizes_left (rows_take q.joins (relations_of q)) p.sizes_are rows
 
   file_is : file ≡ (sites p).used ++ ((relations p).used ++ ((joins p).used ++ (rows.used ++ p.sizes_left)))
-  file_is = before_sizes p ∙ ap (λ (m : List ℕ). (sites p).used ++ ((relations p).used ++ ((joins p).used ++ m))) rows.is
+  file_is = before_sizes_lem p ∙ ap (λ (m : List ℕ). (sites p).used ++ ((relations p).used ++ ((joins p).used ++ m))) rows.is
 
   ordinary_is : ordinary q file ≡ (sites p).used ++ ((relations p).used ++ ((joins p).used ++ (sizes_bytes q ++ p.sizes_left)))
   unfolding ordinary

@@ -42,5 +42,5 @@ module _ {f : Form} {file : List ℕ} {q : Query} {l : List ℕ} (p : Sections f
   pub joins_length : length joins.used ≡ section_length 2 q.joins.count
   joins_length = used_length _ _ p.relations_left q.joins p.joins_left (joins_take (relations_of q)) p.joins_are joins
 
-  pub before_sizes : file ≡ sites.used ++ (relations.used ++ (joins.used ++ p.joins_left))
-  before_sizes = sites.is ∙ ap (λ (m : List ℕ). sites.used ++ m) (relations.is ∙ ap (λ (m : List ℕ). relations.used ++ m) joins.is)
+  pub before_sizes_lem : file ≡ sites.used ++ (relations.used ++ (joins.used ++ p.joins_left))
+  before_sizes_lem = sites.is ∙ ap (λ (m : List ℕ). sites.used ++ m) (relations.is ∙ ap (λ (m : List ℕ). relations.used ++ m) joins.is)

@@ -5,7 +5,7 @@ use mathlib.Core.Path.{◌≡◌, refl, sym, ◌∙◌}
 use mathlib.Core.Bool.{true, false}
 use mathlib.Core.List.{List, ◌++◌}
 use lib.ListN.{length, take, drop}
-use lib.Seq.{length-take-le, take-append_seam, take-length}
+use lib.Seq.{length-take-le, take-append_seam}
 use borrow.Author.Tests.{lt-ltb, not-true, not-false}
 use Rattle.query.specs.declared.Query.{Query}
 use Rattle.query.specs.declared.Charge.{Charge}
@@ -58,8 +58,8 @@ none_trials q t none e = cc
 none_trials q t (some d) e = absurd (let z : ◌≡◌ {A = ℕ} 0 1 = cc in omega arith)
 
 -- Copying all of a plan puts it at the front.
-put_front : (k plan out new : List ℕ) → k ≡ plan → new ≡ take (length k) k ++ drop (length k) out → new ≡ plan ++ drop (length plan) out
-put_front k plan out new e w = rw (w, take-length k, e)
+put_front : (l : ℕ) (k plan out new : List ℕ) → k ≡ plan → l ≡ length plan → new ≡ k ++ drop l out → new ≡ plan ++ drop (length plan) out
+put_front l k plan out new e long w = rw (w, e, long)
 
 module _
     (p : Planner) (s : Solution) (n : ℕ) (out : List ℕ) (loaded : p.loaded ≡ true) (enough : cells_needed p.query ≤ n)
@@ -93,13 +93,13 @@ module _
 
       pub solve_found :
           (plan old new : List ℕ) → plan ≡ plan_after (cheapest ◌+◌ p.query) (written ◌+◌ p.query) old → l ≤ length out →
-          (let k = take l plan in new ≡ take (length k) k ++ drop (length k) out) → solving_of (found c.0 l t) new ≡ solve n out (state_of p)
+          new ≡ take l plan ++ drop l out → solving_of (found c.0 l t) new ≡ solve n out (state_of p)
       solve_found plan old new e h w =
           rw (
             goes,
             costs,
             writing_fits c.0 (trials p.query) (written ◌+◌ p.query) out (rw long at h),
-            put_front (take l plan) (written ◌+◌ p.query) out new (front plan old e) w,
+            put_front l (take l plan) (written ◌+◌ p.query) out new (front plan old e) long w,
             found_trials p.query c l t (cheapest ◌+◌ p.query) same,
             long,
           )
@@ -118,8 +118,8 @@ module _ (q : Query) (valid : Valid q) (s : Solution) (answer : s ≡ solution_o
     pub found_long : l ≡ length (take l plan)
     found_long = rw (length-take-le l plan found_whole)
 
-    pub found_fits : (n : ℕ) → l ≤ n → length (take l plan) ≤ n
-    found_fits n h = rw (← found_long) h
+    pub found_alike : (out : List ℕ) → l ≤ length out → length (take l out) ≡ length (take l plan)
+    found_alike out h = length-take-le l out h ∙ found_long
 
 pub ruleset solving = (
   not-true,
@@ -132,7 +132,7 @@ pub ruleset solving = (
   found_short,
   found_whole,
   found_long,
-  found_fits,
+  found_alike,
   cells_few,
   cells_enough,
   cells_later,

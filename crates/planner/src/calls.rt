@@ -122,7 +122,7 @@ pub fn solve(p: Planner, cells: &mut [u64], output: &mut [u8]) -> SolveAnswer
             if output.len() < length {
                 return SolveAnswer::Refused(23);
             }
-            bytes::copy(&plan[..length], output);
+            output[..length].copy_from_slice(&plan[..length]);
             SolveAnswer::Found {
                 cost,
                 length: length as u64,
