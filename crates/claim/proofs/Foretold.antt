@@ -34,9 +34,9 @@ use Rattle.claim.proofs.PairsAgain.{Paired, pairs_again}
 
 -- Room admits the pairs that are read as the joins of a valid query, and tells the figures of these.
 module _ (q : Query) (valid : Valid q) (pairs : List ℕ) (p : Paired (relations_of q) q.joins pairs) where
-  in_limits : (in_limits (relations_of q) (sites_of q) && eqb (length pairs) (2 * (relations_of q - 1))) ≡ true
+  in_limits_lem : (in_limits (relations_of q) (sites_of q) && eqb (length pairs) (2 * (relations_of q - 1))) ≡ true
   unfolding in_limits
-  in_limits =
+  in_limits_lem =
       let n = relations_of q in
       let some_relation : 1 ≤ n = omega (arith, valid.tree.joins) in
       rw (le-leb 1 n some_relation, le-leb n 9 valid.relations_most, le-leb 1 (sites_of q) valid.sites_some, le-leb (sites_of q) 8 valid.sites_most)
@@ -44,7 +44,7 @@ module _ (q : Query) (valid : Valid q) (pairs : List ℕ) (p : Paired (relations
 
   told : room (relations_of q) (sites_of q) pairs ≡ figures_of (relations_of q) (sites_of q) q.joins
   unfolding room
-  told = rw (in_limits, p.again, valid.tree.reached)
+  told = rw (in_limits_lem, p.again, valid.tree.reached)
 
 -- A query stands that needs m cells and has t trials.
 abbrev Has : (m t : ℕ) → State → Type 0

@@ -17,7 +17,7 @@ use Rattle.decoder.specs.declared.Form.{Form}
 use Rattle.files.specs.Length.{section_length}
 use Rattle.files.proofs.Local.{came}
 use Rattle.files.proofs.InOrder.{Sections}
-use Rattle.files.proofs.Used.{sites, relations, joins, sites_length, relations_length, joins_length, before_sizes}
+use Rattle.files.proofs.Used.{sites, relations, joins, sites_length, relations_length, joins_length, before_sizes_lem}
 use Rattle.claim.specs.Foretold.{pairs_in}
 
 -- The first byte of the joins is their count.
@@ -50,5 +50,5 @@ pub pairs_again : (f : Form) (file : List ℕ) (q : Query) (l : List ℕ) → Se
 pairs_again f file q l p =
     let start : length (sites p).used + length (relations p).used + 1 ≡ section_length 9 (sites_of q) + section_length 2 (relations_of q) + 1 =
     omega (arith, sites_length p, relations_length p) in
-    rw (before_sizes p)
+    rw (before_sizes_lem p)
     (paired (relations_of q) q.joins (sites p).used (relations p).used (joins p).used p.joins_left _ start (joins_length p) (joins p).again)

@@ -3,7 +3,7 @@
 use Prim.{tt}
 use Rattle.std.specs.Prelude.{ℕ, ◌+◌, ◌≤◌, ◌≡◌, ◌↔◌, true, List, ◌++◌, length, drop}
 use Rattle.std.proofs.Math.Option.{some}
-use Rattle.std.specs.Borrow.{Bor}
+use Rattle.std.specs.Borrow.{Bor, MutBor}
 use contract.Lifetimes.{Lfts}
 use Rattle.query.specs.declared.Query.{Query}
 use Rattle.rules.specs.Allowed.{AllowedAt, Allowed, longest_plan}
@@ -54,7 +54,7 @@ pub record Solved (calls : List Call) (r : SolveAnswer) (before after : List ℕ
 -- Demand 3.
 abbrev pub Demand3 : Type 0
 Demand3 =
-    (calls : List Call) (p : Planner) → Runs calls p → (κs : Lfts 2) (cells cells' output output' : Bor (List ℕ)) (r : SolveAnswer) →
+    (calls : List Call) (p : Planner) → Runs calls p → (κs : Lfts 2) (cells cells' output output' : MutBor (List ℕ)) (r : SolveAnswer) →
     Solve.Post κs (p, (cells, (output, tt))) r (p, (cells', (output', tt))) →
     solve_admitted (in_force calls) (length cells.now) (length output.now) ≡ true → Solved calls r output.now output'.now
 
@@ -69,7 +69,7 @@ pub record Callable (p : Planner) : Type 0 where
   pub load : (κs : Lfts 1) (file : Bor (List ℕ)) → Load.Pre κs (p, (file, tt))
   pub load_rows : (κs : Lfts 1) (file : Bor (List ℕ)) → LoadRows.Pre κs (p, (file, tt))
   pub link : (a b f x r : ℕ) → Link.Pre tt (p, (a, (b, (f, (x, (r, tt))))))
-  pub solve : (κs : Lfts 2) (cells output : Bor (List ℕ)) → Solve.Pre κs (p, (cells, (output, tt)))
+  pub solve : (κs : Lfts 2) (cells output : MutBor (List ℕ)) → Solve.Pre κs (p, (cells, (output, tt)))
   pub check : (κs : Lfts 1) (plan : Bor (List ℕ)) → Check.Pre κs (p, (plan, tt))
   pub room : (κs : Lfts 1) (n s : ℕ) (pairs : Bor (List ℕ)) → Room.Pre κs (n, (s, (pairs, tt)))
 

@@ -2,7 +2,7 @@
 use Prim.{tt}
 use Rattle.std.specs.Prelude.{ℕ, List, [], ◌∷◌}
 use Rattle.std.proofs.Math.Option.{Option, none, some}
-use Rattle.std.specs.Borrow.{Bor}
+use Rattle.std.specs.Borrow.{Bor, MutBor}
 use contract.Lifetimes.{Lfts}
 use Rattle.query.specs.declared.Query.{Query}
 use Rattle.query.specs.Choice.{pick}
@@ -74,7 +74,7 @@ pub data Runs : List Call → Planner → Type 0 where
       {calls : List Call} {p : Planner} (a b f x r : ℕ) (d : AfterLink) →
       Runs calls p → LinkReads.Post tt (p, (a, (b, (f, (x, (r, tt)))))) d (p, (a, (b, (f, (x, (r, tt)))))) → Runs (link a b f x r ∷ calls) d.planner
   solves :
-      {calls : List Call} {p : Planner} (κs : Lfts 2) (cells cells' output output' : Bor (List ℕ)) (r : SolveAnswer) →
+      {calls : List Call} {p : Planner} (κs : Lfts 2) (cells cells' output output' : MutBor (List ℕ)) (r : SolveAnswer) →
       Runs calls p → Solve.Post κs (p, (cells, (output, tt))) r (p, (cells', (output', tt))) → Runs (solve cells.now output.now ∷ calls) p
   checks :
       {calls : List Call} {p : Planner} (κs : Lfts 1) (plan last : Bor (List ℕ)) (r : CheckAnswer) →
