@@ -121,8 +121,8 @@ fn lay_relations<'a>(
     sizes: &'a [u32; SETS],
     count: usize,
 )
-    requires board_len { (length board.old ≡ entries) × (count ≤ 9) }
-    requires by_index { (r : ℕ) → r < count → get_or home.now r 0 < 8 }
+    requires lengths { (length board.old ≡ entries) × (count ≤ 9) }
+    requires places { (r : ℕ) → r < count → get_or home.now r 0 < 8 }
     ensures { RelationsLaid board.old board.new home.now index.now sizes.now count }
 {
     let mut r = 0;
@@ -144,8 +144,8 @@ fn lay_pairs<'a>(
     second: &'a [u8; 8],
     count: usize,
 )
-    requires board_len { (length board.old ≡ entries) × (count ≤ 8) }
-    requires by_index { (e : ℕ) → e < count → ((get_or first.now e 0 < 9) × (get_or home.now (get_or first.now e 0) 0 < 8)) × ((get_or second.now e 0 < 9) × (get_or home.now (get_or second.now e 0) 0 < 8)) }
+    requires lengths { (length board.old ≡ entries) × (count ≤ 8) }
+    requires places { (e : ℕ) → e < count → ((get_or first.now e 0 < 9) × (get_or home.now (get_or first.now e 0) 0 < 8)) × ((get_or second.now e 0 < 9) × (get_or home.now (get_or second.now e 0) 0 < 8)) }
     ensures { PairsLaid board.old board.new (spareable_in home.now index.now sizes.now) first.now second.now count }
 {
     let mut e = 0;

@@ -75,8 +75,8 @@ fn after_sites(form: Form, part: &[u8], sites: Sites) -> Decoded
 
 // After the relations, the joins.
 fn after_relations(form: Form, part: &[u8], sites: Sites, relations: Relations) -> Decoded
-    requires le_count { (1 ≤ sites.count) × (sites.count ≤ 8) }
-    requires le_count_2 { (1 ≤ relations.count) × (relations.count ≤ 9) }
+    requires sites_few { (1 ≤ sites.count) × (sites.count ≤ 8) }
+    requires relations_few { (1 ≤ relations.count) × (relations.count ≤ 9) }
     ensures { result ≡ decoded_of (after_relations form sites relations part.now) }
 {
     let read = read_joins(part, relations.count);
@@ -90,7 +90,7 @@ fn after_relations(form: Form, part: &[u8], sites: Sites, relations: Relations) 
 
 // After the last join, the tree test.
 fn after_joins(form: Form, part: &[u8], sites: Sites, relations: Relations, joins: Joins) -> Decoded
-    requires le_count { (1 ≤ sites.count) × (sites.count ≤ 8) }
+    requires sites_few { (1 ≤ sites.count) × (sites.count ≤ 8) }
     requires drawn { Drawn joins × (joins.count + 1 ≡ relations.count) }
     ensures { result ≡ decoded_of (after_joins form sites relations joins part.now) }
 {
@@ -102,9 +102,9 @@ fn after_joins(form: Form, part: &[u8], sites: Sites, relations: Relations, join
 
 // Where the joins make a tree, the sizes of its subqueries. Which sets these are is worked out once.
 fn after_tree(form: Form, part: &[u8], sites: Sites, relations: Relations, joins: Joins) -> Decoded
-    requires le_count { (1 ≤ sites.count) × (sites.count ≤ 8) }
-    requires count_bound { (joins.count ≤ 8) × Tree joins (joins.count + 1) }
-    requires count_value { joins.count + 1 ≡ relations.count }
+    requires sites_few { (1 ≤ sites.count) × (sites.count ≤ 8) }
+    requires tree { (joins.count ≤ 8) × Tree joins (joins.count + 1) }
+    requires relations_are { joins.count + 1 ≡ relations.count }
     ensures { result ≡ decoded_of (and_then (sizes_by form joins (joins.count + 1) part.now) (after_sizes sites relations joins)) }
 {
     let table = join_table(joins);
@@ -128,8 +128,8 @@ fn after_sizes(
     sizes: [u32; SETS],
     due: usize,
 ) -> Decoded
-    requires le_count { (1 ≤ sites.count) × (sites.count ≤ 8) }
-    requires due_value { due ≡ subqueries joins relations.count }
+    requires sites_few { (1 ≤ sites.count) × (sites.count ≤ 8) }
+    requires due_is { due ≡ subqueries joins relations.count }
     ensures { result ≡ decoded_of (after_sizes sites relations joins sizes part.now) }
 {
     let read = read_lines(part, sites.count);
@@ -151,8 +151,8 @@ fn after_lines(
     lines: Lines,
     due: usize,
 ) -> Decoded
-    requires le_count { 1 ≤ sites.count }
-    requires due_value { due ≡ subqueries joins relations.count }
+    requires sites_few { 1 ≤ sites.count }
+    requires due_is { due ≡ subqueries joins relations.count }
     ensures { result ≡ decoded_of (after_lines sites relations joins sizes lines part.now) }
 {
     let read = read_delivery(part, sites.count);

@@ -14,8 +14,8 @@ use sizing::{MOST_ROWS, work_out};
 
 // Rows or Divisors: the count that is due and that many numbers, into a list of ones.
 fn read_counts(part: &[u8], due: usize, counts: &mut [u32; 9]) -> Ended
-    requires due_bound { due ≤ 9 }
-    requires counts_value { counts.old ≡ replicate 9 1 }
+    requires due_few { due ≤ 9 }
+    requires counts_are_one { counts.old ≡ replicate 9 1 }
     ensures { (read_of result.outcome counts.new result.used part.now ≡ counts_section due part.now) × (result.used ≤ 37) }
 {
     let c = count_field(part, due as u64, due as u64);
@@ -49,7 +49,7 @@ fn read_counts(part: &[u8], due: usize, counts: &mut [u32; 9]) -> Ended
 // Rows and Divisors of a tree, and the sizes worked out from them by its table, into a list of zeros.
 fn read_rows(part: &[u8], joins: Joins, table: &[u32; SETS], sizes: &mut [u32; SETS]) -> Ended
     requires tabled { Tabled joins table.now }
-    requires sizes_value { sizes.old ≡ replicate most_sets 0 }
+    requires sizes_are_zero { sizes.old ≡ replicate most_sets 0 }
     ensures { read_of result.outcome sizes.new result.used part.now ≡ rows_sections joins (joins.count + 1) part.now }
 {
     let n = joins.count + 1;
@@ -89,8 +89,8 @@ pub(crate) fn read_by_form(
     sizes: &mut [u32; SETS],
 ) -> Ended
     requires tabled { Tabled joins table.now }
-    requires due_value { due ≡ subqueries joins (joins.count + 1) }
-    requires sizes_value { sizes.old ≡ replicate most_sets 0 }
+    requires due_is { due ≡ subqueries joins (joins.count + 1) }
+    requires sizes_are_zero { sizes.old ≡ replicate most_sets 0 }
     ensures { read_of result.outcome sizes.new result.used part.now ≡ sizes_by form joins (joins.count + 1) part.now }
 {
     match form {

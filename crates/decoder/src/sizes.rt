@@ -20,8 +20,8 @@ pub(crate) fn read_sizes(
     sizes: &mut [u32; SETS],
 ) -> Ended
     requires tabled { Tabled joins table.now }
-    requires due_value { due ≡ subqueries joins (joins.count + 1) }
-    requires sizes_value { sizes.old ≡ replicate most_sets 0 }
+    requires due_is { due ≡ subqueries joins (joins.count + 1) }
+    requires sizes_are_zero { sizes.old ≡ replicate most_sets 0 }
     ensures { read_of result.outcome sizes.new result.used part.now ≡ sizes_section joins (joins.count + 1) part.now }
 {
     let c = read_field(part, 2, 2, due as u64, due as u64);

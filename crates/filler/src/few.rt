@@ -21,7 +21,7 @@ fn try_few<'a>(
     spared: usize,
 )
     requires marked { Marked row.old × ((k : ℕ) → k < reach (sites_at board.now) → Triable (lent board.now sizes.now places.now work.now) parts.first parts.second spared k) }
-    requires bound { (1 ≤ sites_at board.now) × (sites_at board.now ≤ 4) }
+    requires sites_few { (1 ≤ sites_at board.now) × (sites_at board.now ≤ 4) }
     ensures { TriedAt (sites_at board.now) row.old row.new (trial_of ◌+◌ (lent board.now sizes.now places.now work.now) parts.first parts.second spared)
         × Marked row.new }
 {
@@ -42,7 +42,7 @@ pub(crate) fn joined_few<'a>(
     joins: usize,
 ) -> [u64; 8]
     requires joinable { Joinable (lent board.now sizes.now places.now work.now) joins set }
-    requires board_bound { sites_at board.now ≤ 4 }
+    requires sites_few { sites_at board.now ≤ 4 }
     ensures { AtSites (sites_at board.now) result (joined_in ◌+◌ (lent board.now sizes.now places.now work.now) joins set) × Marked result }
 {
     let mut row = [NONE; 8];

@@ -21,7 +21,7 @@ fn try_many<'a>(
     spared: usize,
 )
     requires marked { Marked row.old × ((k : ℕ) → k < reach (sites_at board.now) → Triable (lent board.now sizes.now places.now work.now) parts.first parts.second spared k) }
-    requires bound { (4 < sites_at board.now) × (sites_at board.now ≤ 8) }
+    requires sites_many { (4 < sites_at board.now) × (sites_at board.now ≤ 8) }
     ensures { TriedAt (sites_at board.now) row.old row.new (trial_of ◌+◌ (lent board.now sizes.now places.now work.now) parts.first parts.second spared)
         × Marked row.new }
 {
@@ -41,7 +41,7 @@ pub(crate) fn joined_many<'a>(
     joins: usize,
 ) -> [u64; 8]
     requires joinable { Joinable (lent board.now sizes.now places.now work.now) joins set }
-    requires bound { 4 < sites_at board.now }
+    requires sites_many { 4 < sites_at board.now }
     ensures { AtSites (sites_at board.now) result (joined_in ◌+◌ (lent board.now sizes.now places.now work.now) joins set) × Marked result }
 {
     let mut row = [NONE; 8];

@@ -39,8 +39,8 @@ fn terms_in_range(opened: u64, fixed: u64, rate: u64) -> bool
 
 // The query with the line from the sender to the receiver replaced, its terms in the types that their limits fit.
 fn relined(q: Query, sender: u64, receiver: u64, opened: u64, fixed: u64, rate: u64) -> Query
-    requires sender_bound { (sender < 8) × (receiver < 8) }
-    requires opened_bound { (opened ≤ 1) × (fixed ≤ 1000000) × (rate ≤ 1000) }
+    requires listed { (sender < 8) × (receiver < 8) }
+    requires in_range { (opened ≤ 1) × (fixed ≤ 1000000) × (rate ≤ 1000) }
     ensures { result ≡ relined_by q (link_of sender receiver opened fixed rate) }
 {
     let at = 8 * (sender as usize) + (receiver as usize);

@@ -18,8 +18,8 @@ fn pair_if(yes: bool, f: usize, s: usize) -> usize
 // The sets of the relations a[e] and b[e], for e below count. All eight places are gone through, so that the compiler knows
 // each of them and need not copy the lists to index them.
 fn pairs<'a>(a: &'a [u8; 8], b: &'a [u8; 8], count: usize) -> [usize; 8]
-    requires count_bound { count ≤ 8 }
-    requires by_index { (e : ℕ) → e < count → (get_or a.now e 0 < 64) × (get_or b.now e 0 < 64) }
+    requires few { count ≤ 8 }
+    requires ends_low { (e : ℕ) → e < count → (get_or a.now e 0 < 64) × (get_or b.now e 0 < 64) }
     ensures { Listed result (λ (e : ℕ). put (2 ^ get_or a.now e 0) (get_or b.now e 0)) 8 count }
 {
     let mut found = [0usize; 8];

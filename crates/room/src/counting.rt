@@ -30,8 +30,8 @@ fn count_joins(joins: Joins, table: &[u32; SETS]) -> u64
 
 // What a tree needs at s sites.
 pub(crate) fn figures(joins: Joins, s: u64) -> RoomAnswer
-    requires count_bound { (joins.count ≤ 8) × Tree joins (joins.count + 1) }
-    requires s_bound { s ≤ 8 }
+    requires tree { (joins.count ≤ 8) × Tree joins (joins.count + 1) }
+    requires sites_few { s ≤ 8 }
     ensures { of_room result ≡ figures_of (joins.count + 1) s joins }
 {
     let table = join_table(joins);

@@ -57,7 +57,7 @@ fn once_sent(board: &[u64; BOARD], size: Bytes, k: usize, t: usize) -> u64
 // lowest of these is, where one send from there makes up the figure; else the routes decide.
 pub fn site_for(board: &[u64; BOARD], row: &[u64; 8], size: Bytes, t: usize, figure: u64) -> Choice
     requires marked { Marked row.now × (Carriable board.now size.0 × (t < sites_at board.now)) }
-    requires figure_value { (figure ≡ least_of (site_trial (λ (k : ℕ). get_or row.now k 0) board.now size.0 t) (sites_at board.now)) × (figure < none_mark) }
+    requires least { (figure ≡ least_of (site_trial (λ (k : ℕ). get_or row.now k 0) board.now size.0 t) (sites_at board.now)) × (figure < none_mark) }
     ensures { SiteFor (λ (k : ℕ). get_or row.now k 0) board.now size.0 t figure result }
 {
     let k = first_within(row, figure);

@@ -33,7 +33,7 @@ fn put_sends<'a>(
     i: usize,
 ) -> usize
     requires carriable { Carriable board.now size.0 × (RoutesTo board.now size.0 t i table.now × ((k < sites_at board.now) × (i < sites_at board.now))) }
-    requires k_in_bounds { at + length (step_bytes (send_steps (stops_in board.now size.0 t i k))) ≤ length out.old }
+    requires room { at + length (step_bytes (send_steps (stops_in board.now size.0 t i k))) ≤ length out.old }
     ensures { Wrote out.old at (step_bytes (send_steps (stops_in board.now size.0 t i k))) result out.new }
 {
     if i == 0 {
@@ -55,7 +55,7 @@ fn put_detour(
     carried: u64,
 ) -> usize
     requires carriable { Carriable board.now size.0 × (((k < sites_at board.now) × (t < sites_at board.now)) × Carried board.now size.0 k t carried) }
-    requires t_in_bounds { at + length (step_bytes (send_steps (route_in board.now size.0 k t))) ≤ length out.old }
+    requires room { at + length (step_bytes (send_steps (route_in board.now size.0 k t))) ≤ length out.old }
     ensures { Wrote out.old at (step_bytes (send_steps (route_in board.now size.0 k t))) result out.new }
 {
     let mut table = [NONE; ROUTES];
@@ -79,7 +79,7 @@ pub fn put_route(
     carried: u64,
 ) -> usize
     requires carriable { Carriable board.now size.0 × (((k < sites_at board.now) × (t < sites_at board.now)) × Carried board.now size.0 k t carried) }
-    requires t_in_bounds { at + length (step_bytes (send_steps (route_in board.now size.0 k t))) ≤ length out.old }
+    requires room { at + length (step_bytes (send_steps (route_in board.now size.0 k t))) ≤ length out.old }
     ensures { Wrote out.old at (step_bytes (send_steps (route_in board.now size.0 k t))) result out.new }
 {
     if k == t {

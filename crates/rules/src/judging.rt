@@ -92,7 +92,7 @@ fn run<'a>(
     count: usize,
 ) -> Checked
     requires valid { Valid (of_parts listed sizes.now flag.now fixed.now rate.now target) × Lined flag.now fixed.now rate.now }
-    requires count_le_most_steps { (count ≤ most_steps) × (length plan.now ≡ 1 + 2 * count) }
+    requires steps_few { (count ≤ most_steps) × (length plan.now ≡ 1 + 2 * count) }
     ensures { verdict_of result ≡ run ◌+◌ (of_parts listed sizes.now flag.now fixed.now rate.now target) 0 (steps_of (drop 1 plan.now)) start }
 {
     let mut state = start();

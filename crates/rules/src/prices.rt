@@ -50,7 +50,7 @@ pub(crate) fn sent<'a>(
     t: usize,
 ) -> Held
     requires amounts { Amounts sizes.now fixed.now rate.now }
-    requires fixed_len { (length fixed.now ≡ 64) × (length rate.now ≡ 64) × (t < 8) × (top.figure.0 < 2 ^ 62) }
+    requires lines { (length fixed.now ≡ 64) × (length rate.now ≡ 64) × (t < 8) × (top.figure.0 < 2 ^ 62) }
     ensures { result ≡ sent_to (of_lines 0 sizes.now [] fixed.now rate.now) t top }
 {
     let from = top.site;
@@ -120,7 +120,7 @@ fn join_price(
 // What joining a and b, at the site of both, makes.
 pub(crate) fn joined(listed: Listed, sizes: &[u32], a: Held, b: Held) -> Held
     requires amounts { Amounts sizes.now listed.sites.fixed listed.sites.rate }
-    requires count_bound { (listed.relations.count ≤ 9) × (a.set + b.set < 2 ^ listed.relations.count) × (a.figure.0 + b.figure.0 < 2 ^ 62) }
+    requires operands_few { (listed.relations.count ≤ 9) × (a.set + b.set < 2 ^ listed.relations.count) × (a.figure.0 + b.figure.0 < 2 ^ 62) }
     ensures { result ≡ join_of ◌+◌ (of_listed listed sizes.now) a b }
 {
     let one = qualifies(listed.relations, a);

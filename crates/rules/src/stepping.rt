@@ -128,7 +128,7 @@ fn may_join(listed: Listed, a: Held, b: Held, e: usize) -> bool
 
 // 3, join e: the top two become one.
 fn join(listed: Listed, sizes: &[u32], state: State, e: usize) -> Stepped
-    requires count_bound { (listed.relations.count ≤ 9) × (listed.joins.count + 1 ≡ listed.relations.count) }
+    requires relations_few { (listed.relations.count ≤ 9) × (listed.joins.count + 1 ≡ listed.relations.count) }
     requires amounts { Amounts sizes.now listed.sites.fixed listed.sites.rate × Room listed.relations.count most_steps (machine_of state) }
     ensures { outcome_of result ≡ join ◌+◌ (of_listed listed sizes.now) e (machine_of state) }
 {

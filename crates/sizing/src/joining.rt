@@ -6,8 +6,8 @@ use crate::MOST_SIZE;
 
 // size × rows / divisor, rounded up, and at most the largest size. The product is below 2^60.
 pub(crate) fn joined_size(size: u32, rows: u32, divisor: u32) -> u32
-    requires size_le_most_size { (size ≤ most_size) × (rows ≤ 1000000) }
-    requires le_divisor { (1 ≤ divisor) × (divisor ≤ 1000000) }
+    requires size_most { (size ≤ most_size) × (rows ≤ 1000000) }
+    requires divisor_in_range { (1 ≤ divisor) × (divisor ≤ 1000000) }
     ensures { result ≡ joined_size size rows divisor }
 {
     let by = divisor as u64;

@@ -85,7 +85,7 @@ pub fn work_out(
 )
     requires tabled { Tabled joins table.now }
     requires counts { Counts rows.now × Counts divisors.now }
-    requires sizes_value { sizes.old ≡ replicate most_sets 0 }
+    requires sizes_are_zero { sizes.old ≡ replicate most_sets 0 }
     ensures { sizes.new ≡ worked_sizes joins (joins.count + 1) rows.now divisors.now }
 {
     let near = neighbours(joins);

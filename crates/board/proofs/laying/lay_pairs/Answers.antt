@@ -9,13 +9,13 @@ loop-e-init c = (search rules, pairs_none _ _ _ _)
 
 pub spare_relation-requires : goal.spare_relation-requires
 spare_relation-requires c =
-    let p = c.requires.by_index c.loop-e.e (search rules) in
-    (pairs_long _ _ _ _ _ _ c.loop-e.invariant.1 c.requires.board_len.0, (search rules, rw c.wide.ensures.0 p.0))
+    let p = c.requires.places c.loop-e.e (search rules) in
+    (pairs_long _ _ _ _ _ _ c.loop-e.invariant.1 c.requires.lengths.0, (search rules, rw c.wide.ensures.0 p.0))
 
 pub spare_relation-requires-in-loop-e : goal.spare_relation-requires-in-loop-e
 spare_relation-requires-in-loop-e c =
-    let p = c.requires.by_index c.loop-e.e (search rules) in
-    (c.spare_relation.ensures.kept.long ∙ pairs_long _ _ _ _ _ _ c.loop-e.invariant.1 c.requires.board_len.0, (search rules, rw c.wide-in-loop-e.ensures.0 p.1))
+    let p = c.requires.places c.loop-e.e (search rules) in
+    (c.spare_relation.ensures.kept.long ∙ pairs_long _ _ _ _ _ _ c.loop-e.invariant.1 c.requires.lengths.0, (search rules, rw c.wide-in-loop-e.ensures.0 p.1))
 
 pub loop-e-preserved : goal.loop-e-preserved
 loop-e-preserved c = (search rules, pairs_more _ _ _ _ _ _ _ _ _ _ c.loop-e.invariant.1 c.wide.ensures.0 c.wide-in-loop-e.ensures.0 c.spare_relation.ensures c.spare_relation-in-loop-e.ensures)

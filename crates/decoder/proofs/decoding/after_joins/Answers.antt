@@ -10,7 +10,7 @@ pub returns-then-not-reaches : goal.returns-then-not-reaches
 returns-then-not-reaches c = search (rules, not_reached)
 
 pub after_tree-requires : goal.after_tree-requires
-after_tree-requires c = record { le_count = search rules; count_bound = tree_kept _ _ (search rules) c.reaches.ensures (ap not c.if-not-reaches.false); count_value = search rules }
+after_tree-requires c = record { sites_few = search rules; tree = tree_kept _ _ (search rules) c.reaches.ensures (ap not c.if-not-reaches.false); relations_are = search rules }
 
 pub returns : goal.returns
 returns c = search (rules, reached)

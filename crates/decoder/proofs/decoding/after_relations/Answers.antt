@@ -8,7 +8,7 @@ pub returns-in_default : goal.returns-in_default
 returns-in_default c = search (rules, ends)
 
 pub after_joins-requires : goal.after_joins-requires
-after_joins-requires c = record { le_count = search rules; drawn = joins_kept _ _ _ c.in-Whole.is _ _ _ (search rules) c.read_joins-read.ensures }
+after_joins-requires c = record { sites_few = search rules; drawn = joins_kept _ _ _ c.in-Whole.is _ _ _ (search rules) c.read_joins-read.ensures }
 
 pub returns : goal.returns
 returns c = search (rules, goes_on)

@@ -9,7 +9,7 @@ pub returns-in_default : goal.returns-in_default
 returns-in_default c = search (rules, ends)
 
 pub after_relations-requires : goal.after_relations-requires
-after_relations-requires c = record { le_count = search rules; le_count_2 = (kept _ _ _ c.in-Whole.is (RelationsIn _) _ (relations_in _ _) _ c.read_relations-read.ensures).counts }
+after_relations-requires c = record { sites_few = search rules; relations_few = (kept _ _ _ c.in-Whole.is (RelationsIn _) _ (relations_in _ _) _ c.read_relations-read.ensures).counts }
 
 pub returns : goal.returns
 returns c = search (rules, goes_on)

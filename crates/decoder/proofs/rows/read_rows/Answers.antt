@@ -10,7 +10,7 @@ pub returns-in_default-o : goal.returns-in_default-o
 returns-in_default-o c = search (rules, of-rows)
 
 pub work_out-requires : goal.work_out-requires
-work_out-requires c = record { tabled = search rules; counts = search (rules, counts_kept); sizes_value = search rules }
+work_out-requires c = record { tabled = search rules; counts = search (rules, counts_kept); sizes_are_zero = search rules }
 
 pub returns : goal.returns
 returns c = search (rules, of-rows)

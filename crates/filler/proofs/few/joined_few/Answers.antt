@@ -21,7 +21,7 @@ spared_row-requires c = next_parts _ _ _ _ _ _ c.loop-left.invariant c.loop-left
 pub try_few-requires : goal.try_few-requires
 try_few-requires c =
     let p = c.requires in
-    record { marked = (c.loop-left.invariant.marked, next_asks _ _ _ _ _ _ c.loop-left.invariant c.loop-left-test.true p.joinable _ _ (c.split-parts.ensures ∙ ap (parts_by _) c.side_at.ensures) c.spared_row.ensures.0); bound = (p.joinable.some_site, p.board_bound) }
+    record { marked = (c.loop-left.invariant.marked, next_asks _ _ _ _ _ _ c.loop-left.invariant c.loop-left-test.true p.joinable _ _ (c.split-parts.ensures ∙ ap (parts_by _) c.side_at.ensures) c.spared_row.ensures.0); sites_few = (p.joinable.some_site, p.sites_few) }
 
 pub overflow_sub-left : goal.overflow_sub-left
 overflow_sub-left c = omega (arith, c.loop-left-test.true)

@@ -21,7 +21,7 @@ spared_row-requires c = next_parts _ _ _ _ _ _ c.loop-left.invariant c.loop-left
 pub try_many-requires : goal.try_many-requires
 try_many-requires c =
     let p = c.requires in
-    record { marked = (c.loop-left.invariant.marked, next_asks _ _ _ _ _ _ c.loop-left.invariant c.loop-left-test.true p.joinable _ _ (c.split-parts.ensures ∙ ap (parts_by _) c.side_at.ensures) c.spared_row.ensures.0); bound = (p.bound, p.joinable.few_sites) }
+    record { marked = (c.loop-left.invariant.marked, next_asks _ _ _ _ _ _ c.loop-left.invariant c.loop-left-test.true p.joinable _ _ (c.split-parts.ensures ∙ ap (parts_by _) c.side_at.ensures) c.spared_row.ensures.0); sites_many = (p.sites_many, p.joinable.few_sites) }
 
 pub overflow_sub-left : goal.overflow_sub-left
 overflow_sub-left c = omega (arith, c.loop-left-test.true)

@@ -14,7 +14,7 @@ pub returns-then-not-terms_in_range : goal.returns-then-not-terms_in_range
 returns-then-not-terms_in_range c = record { done = search (rules, linking); sound = search rules }
 
 pub relined-requires : goal.relined-requires
-relined-requires c = record { sender_bound = sites_low _ _ _ c.requires (not-false _ c.if-not-p.false) _ c.sites_listed.ensures c.if-not-sites_listed.false; opened_bound = terms_fair _ _ _ _ c.terms_in_range.ensures c.if-not-terms_in_range.false }
+relined-requires c = record { listed = sites_low _ _ _ c.requires (not-false _ c.if-not-p.false) _ c.sites_listed.ensures c.if-not-sites_listed.false; in_range = terms_fair _ _ _ _ c.terms_in_range.ensures c.if-not-terms_in_range.false }
 
 pub returns : goal.returns
 returns c = record { done = search (rules, linking); sound = search (rules, linking, terms_fair _ _ _ _ c.terms_in_range.ensures c.if-not-terms_in_range.false) }

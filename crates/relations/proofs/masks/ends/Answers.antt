@@ -6,7 +6,7 @@ use Rattle.relations.proofs.masks.ends.Goals as goal
 
 pub pairs-requires : goal.pairs-requires
 unfolding ends_of
-pairs-requires c = let d = c.requires in record { count_bound = d.few; by_index = ends_low _ d }
+pairs-requires c = let d = c.requires in record { few = d.few; ends_low = ends_low _ d }
 
 pub returns : goal.returns
 unfolding ends_of

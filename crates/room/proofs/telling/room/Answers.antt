@@ -31,7 +31,7 @@ returns-then-not-reaches c =
     (search rules)
 
 pub figures-requires : goal.figures-requires
-figures-requires c = record { count_bound = tree_kept _ _ (joins_drawn _ _ (sym c.in_limits.ensures ∙ c.if-not-in_limits.false) _ _ _ _ c.read_pairs-read.ensures.value c.in-Whole.is).0 c.reaches.ensures (ap not c.if-not-reaches.false); s_bound = (within_limits _ _ (sym c.in_limits.ensures ∙ c.if-not-in_limits.false)).1.1 }
+figures-requires c = record { tree = tree_kept _ _ (joins_drawn _ _ (sym c.in_limits.ensures ∙ c.if-not-in_limits.false) _ _ _ _ c.read_pairs-read.ensures.value c.in-Whole.is).0 c.reaches.ensures (ap not c.if-not-reaches.false); sites_few = (within_limits _ _ (sym c.in_limits.ensures ∙ c.if-not-in_limits.false)).1.1 }
 
 pub returns-in-Refused : goal.returns-in-Refused
 returns-in-Refused c = pair_refused _ _ (sym c.in_limits.ensures ∙ c.if-not-in_limits.false) _ _ _ _ c.read_pairs-read.ensures.value (omega arith) _ c.in-Refused.is

@@ -11,7 +11,7 @@ returns-then-i-eq0 t c = rw (sends_none _ _ _ _ _ c.if-i-eq0.true) (wrote_none _
 pub put-place-requires : goal.put-place-requires
 put-place-requires t c =
     let p = c.requires.carriable in
-    let room = c.requires.k_in_bounds in
+    let room = c.requires.room in
     let some = c.if-i-eq0.false in
     let next = c.next_site-next.ensures in (
       first_room _ _ _ _ _ _ _ _ c.args.out.now p.1.0 some p.1.1.1 _ next refl room,
@@ -21,7 +21,7 @@ put-place-requires t c =
 pub put_sends-requires : goal.put_sends-requires
 put_sends-requires t c =
     let p = c.requires.carriable in
-    let room = c.requires.k_in_bounds in
+    let room = c.requires.room in
     let some = c.if-i-eq0.false in
     let next = c.next_site-next.ensures in (
       omega (arith, some, c.decreases),
@@ -34,4 +34,4 @@ put_sends-requires t c =
 pub returns : goal.returns
 returns t c =
     let p = c.requires.carriable in
-    sends_wrote _ _ _ _ _ _ _ _ c.args.out.now p.1.0 c.if-i-eq0.false p.1.1.1 _ c.next_site-next.ensures refl c.requires.k_in_bounds _ _ _ _ c.put-place.ensures c.put_sends.ensures
+    sends_wrote _ _ _ _ _ _ _ _ c.args.out.now p.1.0 c.if-i-eq0.false p.1.1.1 _ c.next_site-next.ensures refl c.requires.room _ _ _ _ c.put-place.ensures c.put_sends.ensures

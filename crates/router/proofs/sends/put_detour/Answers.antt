@@ -50,7 +50,7 @@ pub put_sends-requires : goal.put_sends-requires
 put_sends-requires c =
     let p = c.requires.carriable in record {
       carriable = (p.0, (routes_done _ _ _ _ _ _ (omega arith) c.loop-table.invariant.rows, (p.1.0.0, c.loop-table.invariant.listed)));
-      k_in_bounds = rw (← searched _ _ _ _ _ _ _ p.0.few p.1.0.0 p.1.1 c.loop-table.invariant c.loop-table-test.false) c.requires.t_in_bounds;
+      room = rw (← searched _ _ _ _ _ _ _ p.0.few p.1.0.0 p.1.1 c.loop-table.invariant c.loop-table-test.false) c.requires.room;
     }
 
 pub returns : goal.returns

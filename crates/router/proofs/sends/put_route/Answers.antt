@@ -17,7 +17,7 @@ pub put-requires : goal.put-requires
 put-requires c =
     let p = c.requires.carriable in
     let bytes = direct_bytes _ _ _ _ _ _ p.1.0.0 p.1.0.1 c.if-k-t.false c.line_at-sent.ensures.0 c.if-sent-carried.true p.1.1 in
-    (omega (arith, c.requires.t_in_bounds, ap length bytes), omega (arith, p.1.0.1, p.0.few))
+    (omega (arith, c.requires.room, ap length bytes), omega (arith, p.1.0.1, p.0.few))
 
 pub returns-then-sent-carried : goal.returns-then-sent-carried
 returns-then-sent-carried c =

@@ -14,11 +14,11 @@ pub pop_two-popped-requires : goal.pop_two-popped-requires
 pop_two-popped-requires c = (search rules, search (rules, depth_most))
 
 pub joined-requires : goal.joined-requires
-joined-requires c = record { amounts = search rules; count_bound = (search rules, search (rules, operands_below), search (rules, operands_most)) }
+joined-requires c = record { amounts = search rules; operands_few = (search rules, search (rules, operands_below), search (rules, operands_most)) }
 
 pub returns-then-may_join : goal.returns-then-may_join
 returns-then-may_join c =
-    join_goes _ _ _ _ c.requires.count_bound.1 _ _ _ _ _ _ _ c.if-listed-e.false c.pop_two-popped.ensures.0 c.may_join.ensures c.if-may_join.true
+    join_goes _ _ _ _ c.requires.relations_few.1 _ _ _ _ _ _ _ c.if-listed-e.false c.pop_two-popped.ensures.0 c.may_join.ensures c.if-may_join.true
     c.joined.ensures c.push.ensures c.went.ensures
 
 pub returns-else-may_join : goal.returns-else-may_join

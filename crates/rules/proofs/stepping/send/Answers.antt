@@ -14,7 +14,7 @@ pub pop-popped-requires : goal.pop-popped-requires
 pop-popped-requires c = (search rules, search (rules, depth_most))
 
 pub sent-requires : goal.sent-requires
-sent-requires c = record { amounts = search rules; fixed_len = (search rules, search rules, search rules, search (rules, figure_most)) }
+sent-requires c = record { amounts = search rules; lines = (search rules, search rules, search rules, search (rules, figure_most)) }
 
 pub returns-then-may_send : goal.returns-then-may_send
 returns-then-may_send c = search (rules, send_goes)

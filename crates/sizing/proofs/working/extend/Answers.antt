@@ -95,7 +95,7 @@ pub joined_size-requires : goal.joined_size-requires
 joined_size-requires c =
     let a = c.loop-left.invariant.0.1 in
     let asks = joined_asks a (c.loop-left.invariant.1 _ a) c.loop-left-test.true _ _ _ _ c.single-one.ensures refl c.joins_in-held.ensures c.joins_in.ensures in
-    record { size_le_most_size = asks.0; le_divisor = asks.1 }
+    record { size_most = asks.0; divisor_in_range = asks.1 }
 
 pub offset_bounds-sizes-more : goal.offset_bounds-sizes-more
 offset_bounds-sizes-more c =

@@ -11,13 +11,13 @@ neighbours-near-requires c = drawn_tabled _ _ c.requires.tabled
 pub begin-requires : goal.begin-requires
 begin-requires c =
     let p = c.requires in
-    startable _ _ _ _ _ (standing _ _ _ _ _ p.tabled p.counts.0 p.counts.1 c.neighbours-near.ensures) _ (zeros_long _ p.sizes_value refl)
+    startable _ _ _ _ _ (standing _ _ _ _ _ p.tabled p.counts.0 p.counts.1 c.neighbours-near.ensures) _ (zeros_long _ p.sizes_are_zero refl)
 
 pub loop-set-init : goal.loop-set-init
 loop-set-init c =
     let p = c.requires in
     let s = standing _ _ _ _ _ p.tabled p.counts.0 p.counts.1 c.neighbours-near.ensures in
-    (s, started _ _ _ _ _ s _ _ (c.begin.ensures _) p.sizes_value)
+    (s, started _ _ _ _ _ s _ _ (c.begin.ensures _) p.sizes_are_zero)
 
 pub offset_bounds-table-set : goal.offset_bounds-table-set
 offset_bounds-table-set c = place_scaled _ _ (set_place _ _ _ _ _ c.loop-set.invariant.0 _ _ c.loop-set-test.true c.single.ensures) (omega arith)

@@ -16,7 +16,7 @@ write_delivered-size_of-requires t c = let p = c.requires in set_low _ plus_comb
 pub write_delivered-put_route-requires : goal.write_delivered-put_route-requires
 write_delivered-put_route-requires t c =
     let asked = sent_asked _ plus_combines _ _ _ _ _ _ c.args.out.now c.if-due-eq1.true c.homes_at.ensures _ _ c.put-next.ensures _ c.size_of.ensures c.requires in
-    record { carriable = asked.0; t_in_bounds = asked.1 }
+    record { carriable = asked.0; room = asked.1 }
 
 pub write_delivered-returns-then-due-eq1 : goal.write_delivered-returns-then-due-eq1
 write_delivered-returns-then-due-eq1 t c = one_delivers _ plus_combines _ _ _ _ _ _ c.args.out.now c.if-due-eq1.true c.homes_at.ensures _ _ c.put-next.ensures _ c.size_of.ensures _ _ c.put_route.ensures
@@ -33,7 +33,7 @@ write_delivered-size_of-requires-2 t c = let p = c.requires in set_low _ plus_co
 pub write_delivered-put_route-requires-2 : goal.write_delivered-put_route-requires-2
 write_delivered-put_route-requires-2 t c =
     let asked = sent_on_asked _ plus_combines _ _ _ _ _ _ c.args.out.now c.if-due-eq1.false c.join_site-from.ensures.0 _ _ c.write_joined-next.ensures _ c.size_of-2.ensures c.requires _ c.join_site-from.ensures.1 in
-    record { carriable = asked.0; t_in_bounds = asked.1 }
+    record { carriable = asked.0; room = asked.1 }
 
 pub write_delivered-returns : goal.write_delivered-returns
 write_delivered-returns t c = more_delivers _ plus_combines _ _ _ _ _ _ c.args.out.now c.if-due-eq1.false c.join_site-from.ensures.0 _ _ c.write_joined-next.ensures _ c.size_of-2.ensures _ _ c.put_route-2.ensures

@@ -19,7 +19,7 @@ pub site_for-requires : goal.site_for-requires
 site_for-requires c =
     let p = c.requires.1 in let d = p.0 in record {
       marked = (c.joined_row-row.ensures.1, (carriable _ plus_combines _ _ _ d.known _ c.size_of.ensures, omega (arith, d.listed, d.known.laid.board.sites)));
-      figure_value = site_figure _ plus_combines _ _ _ d.known _ _ _ _ _ c.joins_within.ensures.0 c.joined_row-row.ensures.0 c.size_of.ensures d.listed p.1 d.cost_is;
+      least = site_figure _ plus_combines _ _ _ d.known _ _ _ _ _ c.joins_within.ensures.0 c.joined_row-row.ensures.0 c.size_of.ensures d.listed p.1 d.cost_is;
     }
 
 pub returns : goal.returns
