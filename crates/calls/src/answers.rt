@@ -95,7 +95,7 @@ pub(crate) fn of_solve(
                 && say_kept(out, b"cells", cells_kept(cells, needed, n))
         }
         SolveAnswer::NoRoute { trials } => {
-            line(out, b"no_route ", trials) && say_unwritten(out, cells, needed, n, output, m)
+            line(out, b"no-route ", trials) && say_unwritten(out, cells, needed, n, output, m)
         }
         SolveAnswer::Refused(k) => {
             line(out, b"refused ", k)
