@@ -1,7 +1,7 @@
 // Numbers and bytes of the script, little-endian, read as they come.
 ghost use Rattle.std.specs.Prelude.{◌≤◌, ◌<◌, ◌+◌, length};
 
-use libc::STDIN_FILENO;
+use std::io::Read;
 
 // A number of the script, or that the record is cut.
 #[derive(Clone, Copy)]
@@ -16,17 +16,17 @@ fn wide(x: u8) -> u64
     x as u64
 }
 
-pub(crate) fn one_byte() -> Got {
+pub(crate) fn one_byte(script: &mut impl Read) -> Got {
     let mut b = [0u8; 1];
-    if io::read_full(STDIN_FILENO, &mut b) < 1 {
+    if script.read_exact(&mut b).is_err() {
         return Got::Cut;
     }
     Got::Number(wide(b[0]))
 }
 
-pub(crate) fn two_bytes() -> Got {
+pub(crate) fn two_bytes(script: &mut impl Read) -> Got {
     let mut b = [0u8; 2];
-    if io::read_full(STDIN_FILENO, &mut b) < 2 {
+    if script.read_exact(&mut b).is_err() {
         return Got::Cut;
     }
     Got::Number(wide(b[0]) + 256 * wide(b[1]))
@@ -38,17 +38,17 @@ fn quad(a: u8, b: u8, c: u8, d: u8) -> u64
     wide(a) + 256 * (wide(b) + 256 * (wide(c) + 256 * wide(d)))
 }
 
-pub(crate) fn four_bytes() -> Got {
+pub(crate) fn four_bytes(script: &mut impl Read) -> Got {
     let mut b = [0u8; 4];
-    if io::read_full(STDIN_FILENO, &mut b) < 4 {
+    if script.read_exact(&mut b).is_err() {
         return Got::Cut;
     }
     Got::Number(quad(b[0], b[1], b[2], b[3]))
 }
 
-pub(crate) fn eight_bytes() -> Got {
+pub(crate) fn eight_bytes(script: &mut impl Read) -> Got {
     let mut b = [0u8; 8];
-    if io::read_full(STDIN_FILENO, &mut b) < 8 {
+    if script.read_exact(&mut b).is_err() {
         return Got::Cut;
     }
     let low = quad(b[0], b[1], b[2], b[3]);
@@ -64,14 +64,14 @@ pub(crate) fn at_most(n: u64, most: usize) -> usize
 }
 
 // u16 length, bytes: reads the bytes to the front of the buffer, and answers how many they are.
-pub(crate) fn counted(buffer: &mut [u8]) -> Got
+pub(crate) fn counted(script: &mut impl Read, buffer: &mut [u8]) -> Got
     requires { 65536 ≤ length buffer.old }
 {
-    let Got::Number(length) = two_bytes() else {
+    let Got::Number(length) = two_bytes(script) else {
         return Got::Cut;
     };
     let n = at_most(length, 65536);
-    if io::read_full(STDIN_FILENO, &mut buffer[0..n]) < n {
+    if script.read_exact(&mut buffer[0..n]).is_err() {
         return Got::Cut;
     }
     Got::Number(length)

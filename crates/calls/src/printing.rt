@@ -2,29 +2,28 @@
 ghost use Rattle.std.specs.Prelude.{◌≤◌};
 
 use crate::input::front;
-use libc::STDOUT_FILENO;
 
-pub(crate) fn text(word: &[u8]) -> bool {
-    io::write_all(STDOUT_FILENO, word)
+pub(crate) fn text(out: &impl Print, word: &[u8]) -> bool {
+    out.write_all(word).is_ok()
 }
 
-pub(crate) fn number(n: u64) -> bool {
-    io::print_decimal(STDOUT_FILENO, n)
+pub(crate) fn number(out: &impl Print, n: u64) -> bool {
+    out.print(n).is_ok()
 }
 
 // A line of a word and a number.
-pub(crate) fn line(word: &[u8], n: u64) -> bool {
-    text(word) && number(n) && text(b"\n")
+pub(crate) fn line(out: &impl Print, word: &[u8], n: u64) -> bool {
+    text(out, word) && number(out, n) && text(out, b"\n")
 }
 
 // A line of a word and two numbers.
-pub(crate) fn line_two(word: &[u8], n: u64, m: u64) -> bool {
-    text(word) && number(n) && line(b" ", m)
+pub(crate) fn line_two(out: &impl Print, word: &[u8], n: u64, m: u64) -> bool {
+    text(out, word) && number(out, n) && line(out, b" ", m)
 }
 
 // A line of a word and three numbers.
-pub(crate) fn line_three(word: &[u8], n: u64, m: u64, k: u64) -> bool {
-    text(word) && number(n) && line_two(b" ", m, k)
+pub(crate) fn line_three(out: &impl Print, word: &[u8], n: u64, m: u64, k: u64) -> bool {
+    text(out, word) && number(out, n) && line_two(out, b" ", m, k)
 }
 
 fn hex_digit(d: u8) -> u8 {
@@ -33,7 +32,7 @@ fn hex_digit(d: u8) -> u8 {
 }
 
 // The first bytes of an output in hexadecimal.
-pub(crate) fn hex(bytes: &[u8; 4096], n: usize) -> bool
+pub(crate) fn hex(out: &impl Print, bytes: &[u8; 4096], n: usize) -> bool
     requires { n ≤ 4096 }
 {
     let mut digits = [0u8; 8192];
@@ -44,5 +43,5 @@ pub(crate) fn hex(bytes: &[u8; 4096], n: usize) -> bool
         digits[2 * i + 1] = hex_digit(b);
         i += 1;
     }
-    text(front(&digits, 2 * n))
+    text(out, front(&digits, 2 * n))
 }

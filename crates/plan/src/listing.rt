@@ -4,7 +4,6 @@ ghost use Rattle.std.specs.Prelude.{◌+◌, ◌<◌, ◌≡◌, get_or};
 ghost use Rattle.planner.specs.Code.{state_of, Sound};
 ghost use Rattle.plan.specs.Lines.{lines, lines_solved};
 
-use libc::STDOUT_FILENO;
 use planner::{CELLS, LONGEST_PLAN, LoadAnswer, Planner, SolveAnswer};
 use relations::wide;
 
@@ -16,39 +15,37 @@ pub(crate) struct Listed {
 }
 
 // A word, a number and what stands behind it.
-fn put(word: &[u8], n: u64, end: &[u8]) -> bool {
-    io::write_all(STDOUT_FILENO, word)
-        && io::print_decimal(STDOUT_FILENO, n)
-        && io::write_all(STDOUT_FILENO, end)
+fn put(out: &impl Print, word: &[u8], n: u64, end: &[u8]) -> bool {
+    out.write_all(word).is_ok() && out.print(n).is_ok() && out.write_all(end).is_ok()
 }
 
 // `refused 4`
-fn refused(number: u64) -> Listed
+fn refused(out: &impl Print, number: u64) -> Listed
     ensures { result.lines ≡ 1 }
 {
     Listed {
         lines: 1,
-        written: put(b"refused ", number, b"\n"),
+        written: put(out, b"refused ", number, b"\n"),
     }
 }
 
 // `no route trials 3`
-fn no_route(trials: u64) -> Listed
+fn no_route(out: &impl Print, trials: u64) -> Listed
     ensures { result.lines ≡ 1 }
 {
     Listed {
         lines: 1,
-        written: put(b"no route trials ", trials, b"\n"),
+        written: put(out, b"no route trials ", trials, b"\n"),
     }
 }
 
 // `load 0`, `send 2`, `join 1`
-fn step(kind: u8, arg: u8) -> bool {
+fn step(out: &impl Print, kind: u8, arg: u8) -> bool {
     let n = arg as u64;
     match kind {
-        1 => put(b"load ", n, b"\n"),
-        2 => put(b"send ", n, b"\n"),
-        _ => put(b"join ", n, b"\n"),
+        1 => put(out, b"load ", n, b"\n"),
+        2 => put(out, b"send ", n, b"\n"),
+        _ => put(out, b"join ", n, b"\n"),
     }
 }
 
@@ -58,12 +55,12 @@ fn byte_at(plan: &[u8], i: usize) -> u8 {
 }
 
 // The steps of a plan, so many of them.
-fn steps(plan: &[u8], count: usize) -> bool
+fn steps(out: &impl Print, plan: &[u8], count: usize) -> bool
     requires { count < 256 }
 {
     let mut i = 0;
     while i < count {
-        if !step(byte_at(plan, 1 + 2 * i), byte_at(plan, 2 + 2 * i)) {
+        if !step(out, byte_at(plan, 1 + 2 * i), byte_at(plan, 2 + 2 * i)) {
             return false;
         }
         i += 1;
@@ -72,21 +69,21 @@ fn steps(plan: &[u8], count: usize) -> bool
 }
 
 // `plan 4 cost 21 trials 3`, then each step. The plan is a count byte and its steps.
-fn plan(plan: &[u8; LONGEST_PLAN], cost: u64, trials: u64) -> Listed
+fn plan(out: &impl Print, plan: &[u8; LONGEST_PLAN], cost: u64, trials: u64) -> Listed
     ensures { result.lines ≡ 1 + get_or plan.now 0 0 }
 {
     let count = wide(plan[0]);
-    let first = put(b"plan ", count as u64, b"")
-        && put(b" cost ", cost, b"")
-        && put(b" trials ", trials, b"\n");
+    let first = put(out, b"plan ", count as u64, b"")
+        && put(out, b" cost ", cost, b"")
+        && put(out, b" trials ", trials, b"\n");
     Listed {
         lines: 1 + count,
-        written: first && steps(plan, count),
+        written: first && steps(out, plan, count),
     }
 }
 
 // Solves the standing query, and lists the plan that is found.
-fn solve(p: Planner) -> Listed
+fn solve(out: &impl Print, p: Planner) -> Listed
     requires { Sound p }
     ensures { result.lines ≡ lines_solved (state_of p) }
 {
@@ -94,27 +91,27 @@ fn solve(p: Planner) -> Listed
     let mut bytes = [0u8; LONGEST_PLAN];
     let a = planner::solve(p, &mut cells, &mut bytes);
     match a {
-        SolveAnswer::Refused(k) => refused(k),
-        SolveAnswer::NoRoute { trials } => no_route(trials),
+        SolveAnswer::Refused(k) => refused(out, k),
+        SolveAnswer::NoRoute { trials } => no_route(out, trials),
         SolveAnswer::Found {
             cost,
             length: _,
             trials,
-        } => plan(&bytes, cost.0, trials),
+        } => plan(out, &bytes, cost.0, trials),
     }
 }
 
 // Prints the cheapest plan of a query file, no route, or the refusal.
-pub(crate) fn list(file: &[u8]) -> Listed
+pub(crate) fn list(out: &impl Print, file: &[u8]) -> Listed
     ensures { result.lines ≡ lines file.now }
 {
     let loaded = planner::load(planner::empty(), file);
     let a = loaded.answer;
     match a {
-        LoadAnswer::Refused(k) => refused(k),
+        LoadAnswer::Refused(k) => refused(out, k),
         LoadAnswer::Loaded {
             relations: _,
             subqueries: _,
-        } => solve(loaded.planner),
+        } => solve(out, loaded.planner),
     }
 }

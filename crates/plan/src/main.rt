@@ -3,14 +3,30 @@
 
 mod listing;
 
-use libc::{STDERR_FILENO, STDIN_FILENO};
+ghost use Rattle.std.specs.Prelude.{◌≤◌, length};
 
-fn main() {
+use std::io::Read;
+
+fn main(rt: HostRuntime) {
     // A file has at most 1,674 bytes, so the front of a longer input decides: whatever follows Delivery is refused by its first byte.
-    let mut file = io::buffer();
-    let n = io::read_full(STDIN_FILENO, &mut file);
-    let listed = listing::list(&file[..n]);
+    let mut file = [0u8; 4096];
+    let n = read_full(&mut rt.stdin(), &mut file);
+    let listed = listing::list(&rt, &file[..n]);
     if !listed.written {
-        io::write_all(STDERR_FILENO, b"plan: the listing was not written\n");
+        let _ = eprintln!(rt; "plan: the listing was not written");
     }
+}
+
+// Reads until the buffer is full, the input ends or a read fails, and answers how many bytes stand at the buffer's front.
+fn read_full(input: &mut impl Read, buffer: &mut [u8]) -> usize
+    ensures { result ≤ length buffer.new }
+{
+    let mut done = 0;
+    while done < buffer.len() {
+        match input.read(&mut buffer[done..]) {
+            Ok(0) | Err(_) => break,
+            Ok(n) => done += n,
+        }
+    }
+    done
 }
