@@ -23,7 +23,7 @@ brief() {
 routine='^(fn|struct|enum|impl) .*: proved|^(logic|library|crate|statements|axioms|linked) |^logic=proved|^only='
 routine="$routine|^empty contracts: 0 found|: note: .search. made no use of|^note: no function with a body|^== "
 routine="$routine|^rt: (chose|running|nothing has changed) |^rt: [^ ]+ (proved$|is kept: |ran)|^rt: [^ ]+: (its|trying|begins) "
-routine="$routine|^rt: must-fail [^ ]+: refused,"
+routine="$routine|^rt: must-fail [^ ]+: refused,|^tests: |^test .* ok$|^test result: ok"
 
 # step NAME COMMAND..   runs the command, in brief; all that it says stands in target/log/rt-NAME.txt. Where it fails, so does the run.
 step() {
