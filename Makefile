@@ -22,7 +22,7 @@
 ifeq ($(Q),)
 plan: kit
 	@echo "proving plan and the crates below it; some minutes the first time" >&2
-	@tests/prove.sh check plan >&2
+	@tests/prove.sh run plan >&2
 	@target/bin/plan <examples/q.query
 else
 plan: tool
@@ -34,14 +34,14 @@ explain: tool
 
 programs: kit
 	@echo "proving plan, calls and the crates below them; some minutes the first time" >&2
-	@tests/prove.sh check plan calls >&2
+	@tests/prove.sh run plan calls >&2
 
 # In this folder, wherever cargo is told to put what it builds.
 tool: programs
 	@cargo build --quiet --release --offline --manifest-path tools/Cargo.toml --target-dir tools/target
 
 built: tool
-	@tests/prove.sh staticlib fanchuki
+	@tests/prove.sh lib fanchuki
 	@install/shared.sh
 
 install: built
@@ -50,11 +50,11 @@ install: built
 uninstall:
 	@install/install.sh take
 
-outside: kit
+outside: programs
 	@tests/outside.sh $(ARGS)
 
 soak: kit
-	@tests/prove.sh staticlib fanchuki
+	@tests/prove.sh lib fanchuki
 	@FANCHUKI_ARCHIVE=$(CURDIR)/target/staticlib/libfanchuki.a cargo run --quiet --release --offline \
 		--manifest-path reference/diff_c/Cargo.toml --bin soak -- $(ARGS)
 

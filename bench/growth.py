@@ -63,10 +63,14 @@ def printed(name):
         return ["```", f.read().rstrip("\n"), "```"]
 
 
+with open("kit-version", encoding="utf8") as f:
+    kit = f.read().strip()
+
 page = [
     "# How fast solve is, and how it grows",
     "",
-    "`make bench ARGS=growth` writes this page and the plot anew. Each time is the best of fifty in one run, taken in turns with the C of bench/plain.c. Times are of one machine; the ratios are what to compare.",
+    "`make bench ARGS=growth` writes this page and the plot anew. Each time is the best of fifty in one run, taken in turns with the C of bench/plain.c. Times are of one machine; the ratios are what to compare. "
+    f"The archives were built by the kit `{kit}`.",
     "",
     "## Beside C",
     "",

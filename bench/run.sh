@@ -11,39 +11,42 @@ out=target/bench
 bench=$out/bench
 mkdir -p "$out"
 
-# Proves and builds the archives of the repository in FOLDER; an early one may have no crate timed.
-archives() { # FOLDER
-    for name in fanchuki timed; do
-        [ -d "$1/crates/$name" ] || continue
-        (cd "$1" && rt staticlib $name) >"$out/staticlib.txt" 2>&1 || { cat "$out/staticlib.txt"; exit 1; }
-    done
-}
-
 build() { # further words for the linker
     gcc -O2 -Wall -Wextra -Iinclude -Ibench -c bench/plain.c -o "$out/plain.o"
     gcc -O3 -march=native -Iinclude -Ibench -Dplain_load=fast_load -Dplain_load_rows=fast_load_rows -Dplain_solve=fast_solve -Dplain_plan=fast_plan -c bench/plain.c -o "$out/fast.o"
     gcc -O2 -Wall -Wextra -Iinclude -Ibench bench/bench.c bench/queries.c "$out/plain.o" "$out/fast.o" -Ltarget/staticlib -ltimed -lfanchuki "$@" -o "$bench"
 }
 
-# Builds the archives of REV by its own sources, once, and renames what they export, so that both link into one program.
+# Proves the archives of REV by its own sources, into FOLDER. The sources stand outside this checkout, in which rt wants no
+# others; this kit proves no revision that was written for the kits before rattle-kit-13f.
+archives_of() { # REV FOLDER
+    local name log=$PWD/$out/before.log
+    sources=$(mktemp -d)
+    trap 'rm -rf "$sources"' EXIT
+    git archive "$1" | tar -x -C "$sources"
+    for name in fanchuki timed; do
+        (cd "$sources/crates/$name" && rt lib) >"$log" 2>&1 ||
+            { tail -n 20 "$log"; echo "run.sh: $name of $1 is not proved by this kit ($log)" >&2; exit 1; }
+        cp "$sources/crates/$name/out/lib$name.a" "$2"
+    done
+}
+
+# Builds the archives of REV once, and renames what they export, so that both link into one program.
 build_before() { # REV
-    local rev was
+    local rev was name archives=()
     rev=$(git rev-parse --verify --quiet "$1^{commit}") || { echo "run.sh: no revision $1" >&2; exit 2; }
     was=$out/before/$rev
     if [ ! -f "$was/built" ]; then
         rm -rf "$was" && mkdir -p "$was"
-        git archive "$rev" | tar -x -C "$was"
-        archives "$was"
+        archives_of "$rev" "$was"
         touch "$was/built"
     fi
-    set --
     for name in fanchuki timed; do
-        [ -f "$was/target/staticlib/lib$name.a" ] || continue
         objcopy --redefine-sym fanchuki_plan=before_plan --redefine-sym fanchuki_solves=before_solves \
-            --redefine-sym fanchuki_loads=before_loads --redefine-sym fanchuki_row_loads=before_row_loads "$was/target/staticlib/lib$name.a" "$out/before/lib$name.a"
-        set -- "$@" "$out/before/lib$name.a"
+            --redefine-sym fanchuki_loads=before_loads --redefine-sym fanchuki_row_loads=before_row_loads "$was/lib$name.a" "$out/before/lib$name.a"
+        archives+=("$out/before/lib$name.a")
     done
-    build -Wl,--whole-archive "$@" -Wl,--no-whole-archive
+    build -Wl,--whole-archive "${archives[@]}" -Wl,--no-whole-archive
 }
 
 count() { # TIMES PLANNER WORK SHAPE LINES N S: the instructions of so many
@@ -84,7 +87,7 @@ loads() {
     { "$bench" loads && counts 'shapes loads' 'load rows' 1000 fanchuki plain; } | tee "$out/loads.txt"
 }
 
-archives .
+tests/prove.sh lib fanchuki timed
 case ${1:-} in
 compare)
     build

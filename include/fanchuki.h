@@ -6,7 +6,7 @@
  * two such operands of a join only the larger is. docs/FORMAT.md has the query file (the ordinary one, which states its
  * sizes) and the plan byte by byte. The function is proved: what it returns and what it writes is its contract, for every
  * query and every output. For x86-64. Link by `pkg-config --cflags --libs fanchuki` where it is installed, or with
- * libfanchuki.a (`rt staticlib fanchuki`).
+ * libfanchuki.a (`rt lib` in crates/fanchuki).
  */
 #ifndef FANCHUKI_H
 #define FANCHUKI_H

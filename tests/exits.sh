@@ -1,6 +1,6 @@
 #!/usr/bin/env bash
 # What the built programs do where their output cannot be written: they end at once and say so on standard error.
-# A kit's program has no exit status of its own; a pipe that nobody reads ends it by its signal.
+# They have no exit status of their own. A pipe that nobody reads may end them by its signal.
 set -euo pipefail
 cd "$(dirname "$0")/.."
 

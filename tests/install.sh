@@ -4,7 +4,8 @@
 set -euo pipefail
 cd "$(dirname "$0")/.."
 . install/version.sh
-work=$PWD/target/outside/install
+work=$(mktemp -d) # outside this checkout, in which rt wants no links
+trap 'rm -rf "$work"' EXIT
 archive=target/staticlib/libfanchuki.a
 shared=target/install/libfanchuki.so.$version
 
@@ -151,7 +152,6 @@ installed() { # PREFIX LIBDIR
 for program in pkg-config python3 gcc readelf nm; do
     command -v "$program" >/dev/null || fail "no $program, which this test needs"
 done
-mkdir -p "$work"
 listing=$(target/bin/plan <examples/q.query)
 env -u MAKEFLAGS -u MAKELEVEL make --no-print-directory -o programs tool
 install/shared.sh

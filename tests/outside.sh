@@ -1,6 +1,7 @@
 #!/usr/bin/env bash
 # The tests from outside: the C call at its boundary, what the archive copies, the programs' exit codes, programs and archive
-# held to the reference, the tool, the installed copy.
+# held to the reference, the tool, the installed copy. Over the programs in target/bin, which stand there after `make programs`
+# and after rt's gate, and over the archive, which is built here.
 #   outside.sh [seed=N] [files=N] [lists=N]   so many random files and lists of calls in each comparison, from that seed
 set -euo pipefail
 cd "$(dirname "$0")/.."
@@ -53,10 +54,12 @@ calls_stated() {
     cmp target/outside/stdout crates/calls/stdout
 }
 
-# They take none of the built programs, and longer than anything else here.
+for name in plan calls; do
+    [ -x "target/bin/$name" ] || { echo "no target/bin/$name: 'make programs' makes it" >&2; exit 1; }
+done
+# They take nothing that is built here, and longer than anything else here.
 beside "the reference's own tests" own_tests reference
-tests/prove.sh check plan calls
-tests/prove.sh staticlib fanchuki
+tests/prove.sh lib fanchuki
 export FANCHUKI_PROGRAMS=$PWD/target/bin
 began=$SECONDS
 tests/c/run.sh

@@ -1,14 +1,16 @@
 #!/usr/bin/env bash
 # try-edit.sh CRATE NAME   applies crates/CRATE/must-fail/NAME.edit to a copy of the crates and shows where the check first
-# refuses it. `rt must-fail CRATE` tries all edits of the crate, and of the crates below it too.
+# refuses it. `rt must-fail CRATE` tries all edits of the crate, and shows the first line of each refusal.
 set -euo pipefail
 cd "$(dirname "$0")/.."
 [ $# -eq 2 ] && [ -f "crates/$1/must-fail/$2.edit" ] || { echo "usage: try-edit.sh CRATE NAME, an edit of crates/CRATE/must-fail" >&2; exit 2; }
-rt check "$1" >/dev/null || { echo "$1 is not proved as it is" >&2; exit 2; }
-copy=target/try-edit
-rm -rf "$copy" && mkdir -p "$copy/target"
-cp -a crates crates.txt "$copy"
-cp -a target/rlib target/stamp target/log "$copy/target"
+mkdir -p target
+log=$PWD/target/try-edit.txt
+(cd "crates/$1" && rt check) >"$log" 2>&1 || { echo "$1 is not proved as it is ($log)" >&2; exit 2; }
+# Outside this checkout, in which rt wants no other crates. A check there begins with what this one has kept.
+copy=$(mktemp -d)
+trap 'rm -rf "$copy"' EXIT
+tar -c --exclude='crates/*/out' crates crates.txt | tar -x -C "$copy"
 python3 - "$copy/crates/$1" "$2" <<'END'
 import sys
 crate, name = sys.argv[1:]
@@ -24,10 +26,10 @@ for line in open(f"{crate}/must-fail/{name}.edit", encoding="utf-8").read().spli
             sys.exit(f"{name}: '{old}' occurs {whole.count(old)} times in {path}")
         open(path, "w", encoding="utf-8").write(whole.replace(old, text))
 END
-cd "$copy"
-if rt dev "$1" >target/try-edit.txt 2>&1; then
+cd "$copy/crates/$1"
+if rt check >"$log" 2>&1; then
     echo "NOT REFUSED"
     exit 1
 fi
-grep -nE 'error:|no proof' target/try-edit.txt | grep -v 'advice on a' | head -n 5 | cut -c 1-600
-echo "(all of it: $copy/target/try-edit.txt)"
+grep -nE 'error|: not proved|: no proof' "$log" | grep -v 'advice on a' | head -n 5 | cut -c 1-600
+echo "(all of it: $log)"

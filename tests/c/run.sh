@@ -1,5 +1,5 @@
 #!/usr/bin/env bash
-# The tests of the C call, over a built archive (rt staticlib fanchuki): the example, the header, the boundary, the stack.
+# The tests of the C call, over a built archive (tests/prove.sh lib fanchuki): the example, the header, the boundary, the stack.
 set -euo pipefail
 cd "$(dirname "$0")/../.."
 out=target/outside/c

@@ -1,5 +1,6 @@
 #!/usr/bin/env bash
-# No list of joins is copied below solve, nor in a load's table of sets: read off the built archive (rt staticlib fanchuki).
+# No list of joins is copied below solve, nor in a load's table of sets: read off the built archive (tests/prove.sh
+# lib fanchuki).
 set -euo pipefail
 cd "$(dirname "$0")/../.."
 

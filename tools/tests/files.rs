@@ -5,7 +5,7 @@ mod common;
 use std::fs;
 
 use common::examples::{self, EXAMPLES};
-use common::{example, held_to, run, run_on, scratch, texts, Run};
+use common::{example, held_to, link_to, run, run_on, scratch, texts, Run};
 use reference::encode;
 use reference::generate::queries::Extent;
 use reference::names::Names;
@@ -117,13 +117,12 @@ fn what_was_read_is_not_written_over() {
         let before = fs::read(example(words[1])).expect("the example");
         let own = scratch(&format!("own-{}", words[1]));
         fs::write(&own, &before).expect("it is written");
-        let linked = format!("{own}-linked");
-        let _ = fs::remove_file(&linked);
-        std::os::unix::fs::symlink(&own, &linked).expect("it is linked");
+        let linked = link_to(&own, &format!("own-{}", words[1]));
         for out in [&own, &linked] {
             let found = run(&[words[0], &own, "-o", out]);
             refused(&found, 2, "is FILE itself, which is not written over");
         }
+        fs::remove_file(&linked).expect("the link is removed");
         assert_eq!(fs::read(&own).expect("it is there"), before, "{words:?}");
     }
 }

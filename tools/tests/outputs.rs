@@ -4,11 +4,10 @@ mod common;
 
 use std::fs::{self, File, OpenOptions};
 use std::io;
-use std::os::unix::fs::symlink;
 use std::process::Command;
 
 use common::subcommands::{self, is_told};
-use common::{run, run_of, scratch, tool, Run};
+use common::{link_to, run, run_of, tool, Run};
 
 /// Those of the subcommands, and of help.
 fn command_lines() -> Vec<Vec<String>> {
@@ -97,9 +96,7 @@ fn the_exit_code_is_left_where_nothing_can_be_said() {
 
 #[test]
 fn a_file_that_is_not_written_is_told() {
-    let full = scratch("full.dot");
-    let _ = fs::remove_file(&full);
-    symlink("/dev/full", &full).expect("the link is made");
+    let full = link_to("/dev/full", "full.dot");
     for words in command_lines() {
         let is_written = ["draw", "pack", "unpack", "sizes"].contains(&words[0].as_str());
         for file in [&full, "/no/such/folder/plan.dot"].iter().filter(|_| is_written) {
@@ -107,4 +104,5 @@ fn a_file_that_is_not_written_is_told() {
             is_told(&found, 3, &format!("{file} was not written: "), &words[0]);
         }
     }
+    fs::remove_file(&full).expect("the link is removed");
 }

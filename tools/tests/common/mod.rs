@@ -14,8 +14,9 @@ use std::env;
 use std::ffi::OsStr;
 use std::fs;
 use std::io::{self, Write};
+use std::os::unix::fs::symlink;
 use std::path::{Path, PathBuf};
-use std::process::Command;
+use std::process::{self, Command};
 use std::thread;
 
 /// What a run came to.
@@ -55,6 +56,14 @@ pub fn stored(name: &str) -> String {
 /// The path of a file that a test writes.
 pub fn scratch(name: &str) -> String {
     format!("{}/{name}", env!("CARGO_TARGET_TMPDIR"))
+}
+
+/// The path of a new link to `target`, outside the repository: there rt refuses every link.
+pub fn link_to(target: &str, name: &str) -> String {
+    let link = env::temp_dir().join(format!("fanchuki-{}-{name}", process::id()));
+    let _ = fs::remove_file(&link);
+    symlink(target, &link).expect("the link is made");
+    link.into_os_string().into_string().expect("a name in UTF-8")
 }
 
 /// A folder of a test's own, with nothing in it.
