@@ -93,8 +93,16 @@ def table():
     return rows
 
 
+STRING = re.compile(r'"(?:[^"\\]|\\.)*"')
+
+
 def turn_words(text, rows):
-    return WORD.sub(lambda m: rows.get(m[0], m[0]), text)
+    """The text with its words turned; what a program prints stays."""
+    parts, at = [], 0
+    for m in STRING.finditer(text):
+        parts += [WORD.sub(lambda w: rows.get(w[0], w[0]), text[at : m.start()]), m[0]]
+        at = m.end()
+    return "".join(parts) + WORD.sub(lambda w: rows.get(w[0], w[0]), text[at:])
 
 
 def turn_line(line, rows, mark):
