@@ -129,9 +129,9 @@ def turn_edit(text, rows):
     for line in text.split("\n"):
         if line.startswith(("old: ", "new: ")):
             line = turn_words(line, rows)
-            line = re.sub(r"(?<![\w.])[a-z]+[A-Z]\w*", lambda m: respelled(m[0]), line)
             for was, now in OF_EDITS:
                 line = re.sub(was, now, line)
+            line = re.sub(r"(?<![\w.])[a-z]+[A-Z]\w*", lambda m: respelled(m[0]), line)
         elif line.startswith("file: "):
             line = line.replace("specs/Contracts.antt", "specs/Code.antt")
         else:
