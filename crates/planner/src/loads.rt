@@ -26,6 +26,8 @@ pub fn load_rows(p: Planner, file: &[u8]) -> AfterLoad
 }
 
 // A load of a file of either form.
+// The room that it takes of the stack is to be free again before a solve takes its own.
+#[inline(never)]
 fn load_by(p: Planner, form: Form, file: &[u8]) -> AfterLoad
     requires { Sound p }
     ensures done { done_of (of_load result.answer) result.planner ≡ load_by form file.now (state_of p) }

@@ -11,6 +11,8 @@ use query::Bytes;
 use sender::line_at;
 
 // The least figure at t and its lowest site, by what a set has cost at each site.
+// Its tables of routes are not to stand on the stack once for each call of the writer, which calls itself.
+#[inline(never)]
 fn best_site(board: &[u64; BOARD], row: &[u64; 8], size: Bytes, t: usize) -> Choice
     requires { Marked row.now × (Carriable board.now size.0 × (t < 8)) }
     ensures { ChoiceOf (site_trial (λ (k : ℕ). get_or row.now k 0) board.now size.0 t) (sites_at board.now) result }
