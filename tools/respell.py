@@ -1,6 +1,8 @@
 #!/usr/bin/env python3
 """Brings the repository's own definitions, lemmas, fields and constructors to the spelling of today's Rattle: words in snake case, modules in camel case.
 
+It is run once, in the tree as it was before the port (docs/PORT.md says how).
+
 usage: tools/respell.py            prints the table of names, and which of them fall together
        tools/respell.py --write    turns crates/ (sources, clauses, definitions, proofs, edits) and the code spans of the pages
 
@@ -176,6 +178,8 @@ def write(path, text):
 
 
 def main():
+    if os.path.exists(os.path.join(TOP, "docs", "PORT.md")):
+        sys.exit("respell: this tree is turned already (docs/PORT.md)")
     rows = table()
     if "--write" not in sys.argv:
         back = {}
