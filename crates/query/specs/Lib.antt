@@ -4,6 +4,7 @@ pub mod Zeros
 pub mod Terms
 pub mod Query
 pub mod Prices
+pub mod Refusals
 pub mod Charges
 pub mod Indexed
 pub mod Spared

@@ -2,9 +2,11 @@
 #![tactic(auto)]
 
 mod amounts;
+mod refusal;
 mod zeros;
 
 pub use amounts::amount;
+pub use refusal::Refusal;
 use relations::{Joins, SETS};
 pub use zeros::{no_joins, no_lines, no_query, no_relations, no_sites};
 
