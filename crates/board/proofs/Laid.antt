@@ -3,15 +3,11 @@ use Prim.Native.Nat.{ℕ, ◌+◌, ◌*◌, ◌≤◌, ◌<◌}
 use native.Mathlib.Omega.{arith}
 use mathlib.Core.Path.{◌≡◌, refl, ◌∙◌}
 use mathlib.Core.List.{List}
-use mathlib.Core.Bool.{Bool, true, false}
-use borrow.Author.Count.{below_none, below_more}
-use borrow.Author.Tests.{eqb-true, eqb-false}
-use lib.Dec.{eqb}
-use lib.ListN.{length, get_or, set, length-set}
-use lib.Seq.{get_or-set_same, get_or-set_other}
-use Rattle.query.specs.Choice.{pick}
+use borrow.Author.Count.{below_more}
+use lib.ListN.{get_or, set, length-set}
+use lib.Seq.{get_or-set_other}
 use Rattle.board.specs.Figures.{Lanes}
-use Rattle.board.specs.Board.{entries, lane}
+use Rattle.board.specs.Board.{lane}
 use Rattle.board.specs.Laying.{Kept, Laid, Rows}
 
 -- What lies outside an area stays: where nothing is stored, where one entry of it is, and over two steps.
@@ -33,10 +29,6 @@ kept_then a b c l h m n lo hi x y p q s t =
       below = λ j g. y.below j (omega arith) ∙ x.below j (omega arith);
       above = λ j g. y.above j (omega arith) ∙ x.above j (omega arith);
     }
-
--- A row by what its lanes are.
-pub laid_as : (old new row : List ℕ) (i : ℕ) (g : ℕ → ℕ) → Laid old new i (λ k. get_or row k 0) 8 → Lanes row g → Laid old new i g 8
-laid_as old new row i g a l = record { kept = a.kept; each = λ k h. a.each k h ∙ l.each k h }
 
 -- Rows: one more, and those that a step outside of them leaves.
 module _ (old new : List ℕ) (i : ℕ) (g : ℕ → ℕ → ℕ) (m : ℕ) (a : Rows old i g m) where

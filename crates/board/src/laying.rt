@@ -1,16 +1,16 @@
 // Laying out the board of a query, row by row.
-ghost use Rattle.std.specs.Prelude.{ℕ, ◌≤◌, ◌<◌, ◌≡◌, eqb, length, get_or};
+ghost use Rattle.std.specs.Prelude.{ℕ, ◌≤◌, ◌<◌, ◌≡◌, eqb, get_or};
+ghost use Rattle.query.specs.Query.{Valid, home, sites_of, relations_of};
 ghost use Rattle.query.specs.Spared.{spareable, spared};
-ghost use Rattle.query.specs.Query.{Valid};
-ghost use Rattle.board.specs.Board.{entries, lane, BoardOf};
-ghost use Rattle.board.specs.Laying.{Laid, JoiningLaid, RelationsLaid, PairsLaid, LinesLaid, if_flagged, spareable_in};
+ghost use Rattle.board.specs.Board.{lane, BoardOf, spareable_of, line_fixed_of, line_rate_of};
+ghost use Rattle.board.specs.Laying.{Laid, JoiningLaid, RelationsLaid, PairsLaid, LinesLaid, if_flagged};
 
 use crate::figures::NONE;
 use crate::lanes::{
     BOARD, ENDS, FIXED, HOMES, JOINS, LINE_FIXED, LINE_RATE, PAIRS, RATE, SIDES, SITES, SPAREABLE,
 };
 use query::price::spared;
-use query::{Bytes, Lines, Query, Sites};
+use query::{Bytes, Query};
 use relations::{ends, sides, single};
 use std::array;
 
@@ -29,18 +29,16 @@ fn if_flagged(flag: u8, amount: u32) -> u64
     if flag == 1 { u64::from(amount) } else { NONE }
 }
 
-// The rows of the joins and of joining.
-fn lay_joining(board: &mut [u64; BOARD], ends: [usize; 8], sides: [usize; 8], sites: &Sites)
-    ensures { JoiningLaid board.old board.new ends sides sites.now }
+// The rows of the joins and of joining. A site that may not join has no fixed amount.
+fn lay_joining(board: &mut [u64; BOARD], q: &Query)
+    requires { Valid q.now }
+    ensures { JoiningLaid board.old board.new q.now }
 {
-    lay(&mut *board, ENDS, ends.map(|s| s as u64));
-    lay(&mut *board, SIDES, sides.map(|s| s as u64));
-    lay(
-        &mut *board,
-        FIXED,
-        array::from_fn(|k| if_flagged(sites.may[k], sites.fixed[k])),
-    );
-    lay(&mut *board, RATE, sites.rate.map(|r| u64::from(r)));
+    let fixed = array::from_fn(|k| if_flagged(q.sites.may[k], q.sites.fixed[k]));
+    lay(board, ENDS, ends(q.joins).map(|s| s as u64));
+    lay(board, SIDES, sides(q.joins).map(|s| s as u64));
+    lay(board, FIXED, fixed);
+    lay(board, RATE, q.sites.rate.map(|r| u64::from(r)));
 }
 
 // Notes in a row what can be spared of one operand more, at the site where it stands: a join follows one index, so the larger stays.
@@ -55,62 +53,73 @@ fn spare(board: &mut [u64; BOARD], i: usize, site: usize, size: Bytes)
 
 // Notes in a row what the index of relation r can spare: its size at its home.
 fn spare_relation(board: &mut [u64; BOARD], i: usize, q: &Query, r: usize)
-    requires { (i < 40) × ((r < 9) × (get_or q.now.relations.home r 0 < 8)) }
-    ensures { Laid board.old board.new i
-        (λ (k : ℕ). spared (lane board.old i k) (spareable_in q.now.relations.home q.now.relations.index q.now.sizes r k)) 8 }
+    requires { (i < 40) × ((r < 9) × (home q.now r < 8)) }
+    ensures { Laid board.old board.new i (λ (k : ℕ). spared (lane board.old i k) (spareable_of q.now r k)) 8 }
 {
     if q.relations.index[r] == 1 {
         let size = Bytes(u64::from(q.sizes[single(r)]));
-        spare(&mut *board, i, usize::from(q.relations.home[r]), size);
+        let site = usize::from(q.relations.home[r]);
+        spare(board, i, site, size);
     }
 }
 
 // The rows of the relations.
 fn lay_relations(board: &mut [u64; BOARD], q: &Query)
     requires { Valid q.now }
-    ensures { RelationsLaid board.old board.new q.now.relations.home q.now.relations.index q.now.sizes q.now.relations.count }
+    ensures { RelationsLaid board.old board.new q.now (relations_of q.now) }
 {
     for r in 0..q.relations.count {
-        board[HOMES + r] = single(usize::from(q.relations.home[r])) as u64;
-        spare_relation(&mut *board, SPAREABLE + r, q, r);
+        let homes = single(usize::from(q.relations.home[r]));
+        board[HOMES + r] = homes as u64;
+        spare_relation(board, SPAREABLE + r, q, r);
     }
 }
 
 // The rows of the joins: what is spared where their two relations are joined.
 fn lay_pairs(board: &mut [u64; BOARD], q: &Query)
     requires { Valid q.now }
-    ensures { PairsLaid board.old board.new (spareable_in q.now.relations.home q.now.relations.index q.now.sizes) q.now.joins.first q.now.joins.second q.now.joins.count }
+    ensures { PairsLaid board.old board.new q.now q.now.joins.count }
 {
     for e in 0..q.joins.count {
-        spare_relation(&mut *board, PAIRS + e, q, usize::from(q.joins.first[e]));
-        spare_relation(&mut *board, PAIRS + e, q, usize::from(q.joins.second[e]));
+        spare_relation(board, PAIRS + e, q, usize::from(q.joins.first[e]));
+        spare_relation(board, PAIRS + e, q, usize::from(q.joins.second[e]));
     }
 }
 
-// The rows of the lines.
-fn lay_lines(board: &mut [u64; BOARD], lines: &Lines, count: usize)
-    requires { count ≤ 8 }
-    ensures { LinesLaid board.old board.new lines.now.flag lines.now.fixed lines.now.rate count }
+// The fixed amount of the line from k to t: none where it is closed, and from a site to itself.
+fn line_fixed(q: &Query, k: usize, t: usize) -> u64
+    requires { (k < 8) × (t < 8) }
+    ensures { result ≡ line_fixed_of q.now k t }
 {
-    for k in 0..count {
+    if k == t {
+        return NONE;
+    }
+    if_flagged(q.lines.flag[8 * k + t], q.lines.fixed[8 * k + t])
+}
+
+// The rate of the line from k to t, which is nothing from a site to itself.
+fn line_rate(q: &Query, k: usize, t: usize) -> u64
+    requires { (k < 8) × (t < 8) }
+    ensures { result ≡ line_rate_of q.now k t }
+{
+    if k == t {
+        return 0;
+    }
+    u64::from(q.lines.rate[8 * k + t])
+}
+
+// The rows of the lines.
+fn lay_lines(board: &mut [u64; BOARD], q: &Query)
+    requires { Valid q.now }
+    ensures { LinesLaid board.old board.new q.now (sites_of q.now) }
+{
+    for k in 0..q.sites.count {
         lay(
-            &mut *board,
+            board,
             LINE_FIXED + k,
-            array::from_fn(|t| if t == k {
-                NONE
-            } else {
-                if_flagged(lines.flag[8 * k + t], lines.fixed[8 * k + t])
-            }),
+            array::from_fn(|t| line_fixed(q, k, t)),
         );
-        lay(
-            &mut *board,
-            LINE_RATE + k,
-            array::from_fn(|t| if t == k {
-                0
-            } else {
-                u64::from(lines.rate[8 * k + t])
-            }),
-        );
+        lay(board, LINE_RATE + k, array::from_fn(|t| line_rate(q, k, t)));
     }
 }
 
@@ -120,10 +129,10 @@ pub fn laid_out(q: &Query) -> [u64; BOARD]
     ensures { BoardOf q.now result }
 {
     let mut board = [0u64; BOARD];
-    lay_joining(&mut board, ends(q.joins), sides(q.joins), &q.sites);
+    lay_joining(&mut board, q);
     lay_relations(&mut board, q);
     lay_pairs(&mut board, q);
-    lay_lines(&mut board, &q.lines, q.sites.count);
+    lay_lines(&mut board, q);
     board[JOINS] = q.joins.count as u64;
     board[SITES] = q.sites.count as u64;
     board

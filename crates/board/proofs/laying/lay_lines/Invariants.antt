@@ -3,4 +3,4 @@ use Rattle.board.specs.Laying.{LinesLaid}
 use Rattle.board.proofs.laying.lay_lines.Given as goal
 
 abbrev pub invariant-loop-k : goal.invariant-loop-k
-invariant-loop-k l = LinesLaid l.initial.board l.board l.lines.flag l.lines.fixed l.lines.rate l.k-counter
+invariant-loop-k l = LinesLaid l.initial.board l.board l.q l.k-counter

@@ -1,6 +1,6 @@
 -- Each turn lays the row of one join more.
 use borrow.Author.Rules.{rules}
-use Rattle.board.proofs.LaidBoard.{pair_low}
+use Rattle.board.proofs.Here.{pair_low}
 use Rattle.board.proofs.laying.lay_pairs.Goals as goal
 
 pub spare_relation-requires : goal.spare_relation-requires
