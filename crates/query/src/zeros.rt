@@ -1,4 +1,5 @@
-// The parts of a query, each with its count and zeros, and the query of zeros.
+// The parts of a query, each with its count and zeros, and the query of zeros. Written out, not by Default: that has no place for
+// a count, and says of an array only what each of its places holds.
 ghost use Rattle.std.specs.Prelude.{◌≡◌};
 ghost use Rattle.query.specs.Zeros.{no_sites, no_relations, no_joins, no_lines, no_query};
 
