@@ -9,7 +9,7 @@ use Rattle.relations.specs.Trees.{reaches}
 use Rattle.query.specs.declared.Query.{Query}
 use Rattle.query.specs.Query.{Valid, home}
 use Rattle.query.proofs.Choice.{pick_all}
-use Rattle.sections.specs.Fields.{Read, refused, value}
+use Rattle.sections.specs.Fields.{refused, value}
 use Rattle.sections.specs.Sections.{sites_section, relations_section, joins_section, lines_section, delivery_section}
 use Rattle.sections.proofs.Gives.{Has, gives_then}
 use Rattle.sections.proofs.Ranges.{sites_in, relations_in, joins_in_lem, lines_in, delivery_in}
