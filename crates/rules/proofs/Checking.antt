@@ -51,7 +51,7 @@ module _ (q : Query) (steps : List (List ℕ)) (i : ℕ) (m : Machine) (whole : 
     pub room_again : (u : Unit {0}) → s ≡ Ok u → Valid q → Room (relations_of q) i m → Room (relations_of q) (i + 1) (machine_of n)
     room_again u f v room =
         let gone : step ◌+◌ q (step_of_bytes (get_or steps i [])).kind (step_of_bytes (get_or steps i [])).arg m ≡ went (machine_of n) =
-          sym took ∙ rw (had_gone (Unit {0}) i r s placed u f) in
+        sym took ∙ rw (had_gone (Unit {0}) i r s placed u f) in
         rw (gone, ← add-one i) at (step_room ◌+◌ plus_combines q v i (step_of_bytes (get_or steps i [])) m room)
 
   pub run_ends : i ≡ length steps → (r : Result Charge Refusal) (s : Result Charge Rejection) → Placed (length steps) r s →

@@ -28,7 +28,7 @@ top_two xs s ys e l f =
     let many : length ys ≡ length xs - 1 = rw f (length-take-le (length xs - 1) xs (omega arith)) in
     let same : length ys - 1 ≡ length s - 2 = omega arith in
     let next : get_or ys (length ys - 1) nothing ≡ get_or s (length s - 2) nothing =
-      rw (same, f, e) (get_or-take (length xs - 1) xs (length xs - 2) nothing (omega arith)) in
+    rw (same, f, e) (get_or-take (length xs - 1) xs (length xs - 2) nothing (omega arith)) in
     rw (top_one xs s e (omega arith), ← f, top_one ys ys refl (omega arith), next)
 
 -- No result.

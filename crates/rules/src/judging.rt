@@ -28,7 +28,9 @@ fn run(q: &Query, steps: &[[u8; 2]]) -> Result<Charge, Rejection>
     let mut state = State::start();
     for (i, bytes) in steps.iter().enumerate() {
         let place = i as u64;
-        state.step(q, *bytes).map_err(|refusal| Rejection { refusal, place })?;
+        state
+            .step(q, *bytes)
+            .map_err(|refusal| Rejection { refusal, place })?;
     }
     let place = steps.len() as u64;
     finish(q, &state).map_err(|refusal| Rejection { refusal, place })

@@ -25,8 +25,9 @@ fn join_price(q: &Query, a: Held, b: Held) -> Charge
 {
     let x = size(q, a.set);
     let y = size(q, b.set);
-    let spared = price::spared(price::spareable(a.qualifies(q), x), price::spareable(b.qualifies(q), y));
-    let read = price::reads(x, y, spared);
+    let one = price::spareable(a.qualifies(q), x);
+    let other = price::spareable(b.qualifies(q), y);
+    let read = price::reads(x, y, price::spared(one, other));
     let result = size(q, a.set + b.set);
     let fixed = Charge(u64::from(q.sites.fixed[b.site]));
     price::join_price(fixed, u64::from(q.sites.rate[b.site]), read, result)
@@ -51,7 +52,8 @@ impl Held {
         requires { Valid q.now × (self.set < 2 ^ relations_of q.now) }
         ensures { result ≡ qualifies q.now self }
     {
-        self.origin == Origin::Bare && price::is_indexed(&q.relations.home, &q.relations.index, self.set, self.site)
+        self.origin == Origin::Bare
+            && price::is_indexed(&q.relations.home, &q.relations.index, self.set, self.site)
     }
 
     // What is sent, as it arrives at t.

@@ -11,6 +11,7 @@ use query::{Query, Refusal};
 use relations::bit;
 
 // A result may be sent to t: it stands elsewhere, and the line is open.
+#[tactic(auto, unfolding(query::specs::Query::is_open))]
 fn may_send(q: &Query, top: Held, t: usize) -> bool
     requires { (top.site < 8) × (t < 8) }
     ensures { result ≡ (not (eqb top.site t) && is_open q.now top.site t) }
@@ -29,6 +30,7 @@ fn links(q: &Query, e: usize, p: usize, r: usize) -> bool
 }
 
 // a and b may be joined by e: they stand at one site that may join, with one end of e in each.
+#[tactic(auto, unfolding(query::specs::Query::may_join))]
 fn may_join(q: &Query, a: Held, b: Held, e: usize) -> bool
     requires { (b.site < 8) × (e < 8) }
     ensures { result ≡ ((eqb a.site b.site && may_join q.now b.site) && links q.now.joins e a.set b.set) }
@@ -74,13 +76,10 @@ impl State {
         if q.sites.count <= t {
             return Err(Refusal::UnknownStep);
         }
-        let [.., top] = self.held.as_slice() else {
-            return Err(Refusal::SendNotAllowed);
+        let top = match self.held.as_slice() {
+            [.., top] if may_send(q, *top, t) => *top,
+            _ => return Err(Refusal::SendNotAllowed),
         };
-        let top = *top;
-        if !may_send(q, top, t) {
-            return Err(Refusal::SendNotAllowed);
-        }
         self.held.pop();
         self.held.push(top.sent(q, t));
         Ok(())
@@ -95,13 +94,10 @@ impl State {
         if q.joins.count <= e {
             return Err(Refusal::UnknownStep);
         }
-        let [.., a, b] = self.held.as_slice() else {
-            return Err(Refusal::JoinNotAllowed);
+        let (a, b) = match self.held.as_slice() {
+            [.., a, b] if may_join(q, *a, *b, e) => (*a, *b),
+            _ => return Err(Refusal::JoinNotAllowed),
         };
-        let (a, b) = (*a, *b);
-        if !may_join(q, a, b, e) {
-            return Err(Refusal::JoinNotAllowed);
-        }
         self.held.pop();
         self.held.pop();
         self.held.push(Held::joined(q, a, b));

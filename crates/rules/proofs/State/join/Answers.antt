@@ -28,16 +28,16 @@ unfolding join
 returns-in_default-clause-outcome c =
     rw (listed _ _ c.requires.0 c.if-q-e.false, few c.args.q.now c.args.e c.args.self.now.loaded _ (rw c.as_slice.ensures.value at c.in_default.len_below))
 
+pub returns-in_default-2-clause-outcome : goal.returns-in_default-2-clause-outcome
+unfolding join join_top
+returns-in_default-2-clause-outcome c =
+    rw (listed _ _ c.requires.0 c.if-q-e.false, top_two _ _ _ c.as_slice.ensures.value c.in-len2-up.len_at_least refl, ← c.may_join.ensures, c.if-may_join.false)
+
 pub may_join-requires : goal.may_join-requires
 may_join-requires c =
     let both = top_two _ _ _ c.as_slice.ensures.value c.in-len2-up.len_at_least refl in
     let small = operands_small _ c.requires.0.relations_most _ _ _ c.requires.1 _ _ both in
     (small.0, omega (arith, c.requires.0.relations_most, c.requires.0.tree.joins))
-
-pub returns-then-not-may_join-clause-outcome : goal.returns-then-not-may_join-clause-outcome
-unfolding join join_top
-returns-then-not-may_join-clause-outcome c =
-    rw (listed _ _ c.requires.0 c.if-q-e.false, top_two _ _ _ c.as_slice.ensures.value c.in-len2-up.len_at_least refl, ← c.may_join.ensures, c.if-not-may_join.true)
 
 pub joined-requires : goal.joined-requires
 joined-requires c =
@@ -48,5 +48,12 @@ joined-requires c =
 pub returns-clause-outcome : goal.returns-clause-outcome
 unfolding join join_top
 returns-clause-outcome c =
-    rw (listed _ _ c.requires.0 c.if-q-e.false, top_two _ _ _ c.as_slice.ensures.value c.in-len2-up.len_at_least c.pop.ensures.rest, ← c.may_join.ensures,
-      c.if-not-may_join.false, pushed _ _ _ c.push.ensures.items, c.joined.ensures, c.pop-2.ensures.rest)
+    rw (
+      listed _ _ c.requires.0 c.if-q-e.false,
+      top_two _ _ _ c.as_slice.ensures.value c.in-len2-up.len_at_least c.pop.ensures.rest,
+      ← c.may_join.ensures,
+      c.if-may_join.true,
+      pushed _ _ _ c.push.ensures.items,
+      c.joined.ensures,
+      c.pop-2.ensures.rest,
+    )

@@ -16,15 +16,15 @@ unfolding send send_top
 returns-in_default-clause-outcome c =
     rw (lt-ltb c.args.t (sites_of c.args.q.now) c.if-q-t.false, top_none _ _ c.as_slice.ensures.value c.in_default.len_below)
 
+pub returns-in_default-2-clause-outcome : goal.returns-in_default-2-clause-outcome
+unfolding send send_top
+returns-in_default-2-clause-outcome c =
+    rw (lt-ltb c.args.t (sites_of c.args.q.now) c.if-q-t.false, top_one _ _ c.as_slice.ensures.value c.in-len1-up.len_at_least, ← c.may_send.ensures, c.if-may_send.false)
+
 pub may_send-requires : goal.may_send-requires
 may_send-requires c =
     let small = top_small _ c.requires.0.relations_most _ _ _ c.requires.1 _ (top_one _ _ c.as_slice.ensures.value c.in-len1-up.len_at_least) in
     (small.0, omega (arith, c.requires.0.sites_most))
-
-pub returns-then-not-may_send-clause-outcome : goal.returns-then-not-may_send-clause-outcome
-unfolding send send_top
-returns-then-not-may_send-clause-outcome c =
-    rw (lt-ltb c.args.t (sites_of c.args.q.now) c.if-q-t.false, top_one _ _ c.as_slice.ensures.value c.in-len1-up.len_at_least, ← c.may_send.ensures, c.if-not-may_send.true)
 
 pub sent-requires : goal.sent-requires
 sent-requires c =
@@ -34,5 +34,12 @@ sent-requires c =
 pub returns-clause-outcome : goal.returns-clause-outcome
 unfolding send send_top
 returns-clause-outcome c =
-    rw (lt-ltb c.args.t (sites_of c.args.q.now) c.if-q-t.false, top_one _ _ c.as_slice.ensures.value c.in-len1-up.len_at_least, ← c.may_send.ensures, c.if-not-may_send.false,
-      pushed _ _ _ c.push.ensures.items, c.sent.ensures, c.pop.ensures.rest)
+    rw (
+      lt-ltb c.args.t (sites_of c.args.q.now) c.if-q-t.false,
+      top_one _ _ c.as_slice.ensures.value c.in-len1-up.len_at_least,
+      ← c.may_send.ensures,
+      c.if-may_send.true,
+      pushed _ _ _ c.push.ensures.items,
+      c.sent.ensures,
+      c.pop.ensures.rest,
+    )

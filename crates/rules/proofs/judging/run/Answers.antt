@@ -13,7 +13,7 @@ returns-in_err-map_err c =
     let p = err_from_is_err_and c.from_residual.result c.from_residual.ensures.1 in
     rw (p.1, p.2)
     (run_refused _ _ _ _ _ c.loop-i.invariant.rest c.loop-i-test.true c.step.result c.map_err.result c.step.new.self (search rules) c.step.ensures.outcome
-      c.in_err-map_err.field-0.0 c.in_err-map_err.was)
+    c.in_err-map_err.field-0.0 c.in_err-map_err.was)
 
 pub loop-i-preserved : goal.loop-i-preserved
 loop-i-preserved c = record {

@@ -20,5 +20,5 @@ pub returns : goal.returns
 unfolding join_price join_fixed join_rate
 returns c =
     let read : c.reads-read.result.0 ≡ reads (qualifies c.args.q.now c.args.a) (size c.args.q.now c.args.a.set) (qualifies c.args.q.now c.args.b) (size c.args.q.now c.args.b.set) =
-      rw (reads_spared, ← c.qualifies.ensures, ← c.qualifies-2.ensures, ← c.size-x.ensures.0, ← c.size-y.ensures.0, ← c.spareable.ensures.0, ← c.spareable-2.ensures.0, ← c.spared-spared.ensures) c.reads-read.ensures.0 in
+    rw (reads_spared, ← c.qualifies.ensures, ← c.qualifies-2.ensures, ← c.size-x.ensures.0, ← c.size-y.ensures.0, ← c.spareable-one.ensures.0, ← c.spareable-other.ensures.0, ← c.spared.ensures) c.reads-read.ensures.0 in
     (c.join_price.ensures.0 ∙ rw (read, c.size-result.ensures.0, c.from.ensures, c.from-2.ensures), omega (arith, c.requires.0.join_fixed_most c.args.b.site))
