@@ -1,10 +1,7 @@
--- `rows::start_row` meets its contract: the row is that of its one relation or that of its joins. Assumes nothing.
-use Rattle.query.proofs.Indexed.{place_fits, one_of_nine}
+-- `start_row` meets its contract: the row is that of its one relation or that of its joins. Assumes nothing.
+use Rattle.query.proofs.Indexed.{one_of_nine}
 use Rattle.filler.proofs.CellsStored.{start_bare, start_joined}
-use Rattle.filler.proofs.rows.start_row.Goals as goal
-
-pub overflow_cast-r : goal.overflow_cast-r
-overflow_cast-r c = place_fits _
+use Rattle.filler.proofs.trials.Tables.start_row.Goals as goal
 
 pub homes_at-requires : goal.homes_at-requires
 homes_at-requires c = one_of_nine _ (c.requires.alone c.if-joins-eq0.true) c.requires.set_in
