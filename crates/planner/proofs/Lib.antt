@@ -1,4 +1,4 @@
-pub mod Standing
+pub mod Sound
 pub mod Loading
 pub mod Linking
 pub mod Cells

@@ -1,8 +1,8 @@
 -- One law for each way through solve: what the tests and the solver's answer make of the call's definition.
+use Rattle.std.proofs.Common.{Some, None}
 use Prim.Native.Nat.{ℕ, ◌+◌, ◌≤◌, ◌<◌}
 use native.Mathlib.Omega.{arith}
 use mathlib.Core.Path.{◌≡◌, refl, sym, ◌∙◌}
-use mathlib.Core.Bool.{true, false}
 use mathlib.Core.List.{List, ◌++◌}
 use lib.ListN.{length, take, drop}
 use lib.Seq.{length-take-le, take-append_seam}
@@ -21,19 +21,19 @@ use Rattle.solver.specs.Solution.{solution_of, plan_after}
 use Rattle.tables.proofs.Upper.{written_most}
 use Rattle.rules.proofs.Combinations.{plus_combines}
 use Rattle.planner.specs.declared.Planner.{Planner}
+use Rattle.planner.specs.declared.Standing.{Standing}
 use Rattle.planner.specs.Solve.{found, no_route, refused, solving_of, solved, solve}
 use Rattle.planner.specs.Code.{state_of}
-use Rattle.planner.proofs.Standing.{standing_valid}
 use Rattle.planner.proofs.Cells.{cells_few, cells_enough, cells_later, solve_is, writing_fits}
 
 module _ (p : Planner) (n : ℕ) (out : List ℕ) where
-  pub solve_nothing : p.loaded ≡ false → solving_of (refused 20) out ≡ solve n out (state_of p)
+  pub solve_nothing : p.standing ≡ None → solving_of (refused 20) out ≡ solve n out (state_of p)
   unfolding solve
   solve_nothing e = rw e
 
-  pub solve_few : p.loaded ≡ true → n < cells_needed p.query → solving_of (refused 21) out ≡ solve n out (state_of p)
+  pub solve_few : (s : Standing) → p.standing ≡ Some s → n < cells_needed s.query → solving_of (refused 21) out ≡ solve n out (state_of p)
   unfolding solve
-  solve_few e h = rw (e, lt-ltb n (cells_needed p.query) h)
+  solve_few s e h = rw (e, lt-ltb n (cells_needed s.query) h)
 
 -- The solver's answer by what the query costs.
 module _ (q : Query) (c : Charge) (l t : ℕ) where
@@ -62,45 +62,45 @@ put_front : (l : ℕ) (k plan out new : List ℕ) → k ≡ plan → l ≡ lengt
 put_front l k plan out new e long w = rw (w, e, long)
 
 module _
-    (p : Planner) (s : Solution) (n : ℕ) (out : List ℕ) (loaded : p.loaded ≡ true) (enough : cells_needed p.query ≤ n)
-    (answer : s ≡ solution_of p.query (cheapest ◌+◌ p.query))
+    (p : Planner) (s : Standing) (r : Solution) (n : ℕ) (out : List ℕ) (stands : p.standing ≡ Some s) (enough : cells_needed s.query ≤ n)
+    (answer : r ≡ solution_of s.query (cheapest ◌+◌ s.query))
   where
-    goes : solve n out (state_of p) ≡ solved p.query (cheapest ◌+◌ p.query) out
-    goes = solve_is (state_of p) p.query n out (rw loaded) enough
+    goes : solve n out (state_of p) ≡ solved s.query (cheapest ◌+◌ s.query) out
+    goes = solve_is (state_of p) s.query n out (rw stands) enough
 
-    pub solve_no_route : (t : ℕ) → s ≡ NoRoute t → solving_of (no_route t) out ≡ solve n out (state_of p)
+    pub solve_no_route : (t : ℕ) → r ≡ NoRoute t → solving_of (no_route t) out ≡ solve n out (state_of p)
     solve_no_route t is =
         let same = sym answer ∙ is in
-        rw (goes, is_none p.query t (cheapest ◌+◌ p.query) same, none_trials p.query t (cheapest ◌+◌ p.query) same)
+        rw (goes, is_none s.query t (cheapest ◌+◌ s.query) same, none_trials s.query t (cheapest ◌+◌ s.query) same)
 
     -- A plan is found.
-    module _ (c : Charge) (l t : ℕ) (is : s ≡ Found c l t) where
-      same : solution_of p.query (cheapest ◌+◌ p.query) ≡ Found c l t
+    module _ (c : Charge) (l t : ℕ) (is : r ≡ Found c l t) where
+      same : solution_of s.query (cheapest ◌+◌ s.query) ≡ Found c l t
       same = sym answer ∙ is
 
-      costs : cheapest ◌+◌ p.query ≡ some c.0
-      costs = is_found p.query c l t (cheapest ◌+◌ p.query) same
+      costs : cheapest ◌+◌ s.query ≡ some c.0
+      costs = is_found s.query c l t (cheapest ◌+◌ s.query) same
 
-      long : l ≡ length (written ◌+◌ p.query)
-      long = found_length p.query c l t (cheapest ◌+◌ p.query) same
+      long : l ≡ length (written ◌+◌ s.query)
+      long = found_length s.query c l t (cheapest ◌+◌ s.query) same
 
       pub solve_short : length out < l → solving_of (refused 23) out ≡ solve n out (state_of p)
       solve_short h = rw (goes, costs, ← long, lt-ltb (length out) l h)
 
       -- Its bytes are the front of the solver's array, which is copied to the front of the output.
-      front : (plan old : List ℕ) → plan ≡ plan_after (cheapest ◌+◌ p.query) (written ◌+◌ p.query) old → take l plan ≡ written ◌+◌ p.query
-      front plan old e = rw (e, costs, long) (take-append_seam (written ◌+◌ p.query) (drop (length (written ◌+◌ p.query)) old))
+      front : (plan old : List ℕ) → plan ≡ plan_after (cheapest ◌+◌ s.query) (written ◌+◌ s.query) old → take l plan ≡ written ◌+◌ s.query
+      front plan old e = rw (e, costs, long) (take-append_seam (written ◌+◌ s.query) (drop (length (written ◌+◌ s.query)) old))
 
       pub solve_found :
-          (plan old new : List ℕ) → plan ≡ plan_after (cheapest ◌+◌ p.query) (written ◌+◌ p.query) old → l ≤ length out →
+          (plan old new : List ℕ) → plan ≡ plan_after (cheapest ◌+◌ s.query) (written ◌+◌ s.query) old → l ≤ length out →
           new ≡ take l plan ++ drop l out → solving_of (found c.0 l t) new ≡ solve n out (state_of p)
       solve_found plan old new e h w =
           rw (
             goes,
             costs,
-            writing_fits c.0 (trials p.query) (written ◌+◌ p.query) out (rw long at h),
-            put_front l (take l plan) (written ◌+◌ p.query) out new (front plan old e) long w,
-            found_trials p.query c l t (cheapest ◌+◌ p.query) same,
+            writing_fits c.0 (trials s.query) (written ◌+◌ s.query) out (rw long at h),
+            put_front l (take l plan) (written ◌+◌ s.query) out new (front plan old e) long w,
+            found_trials s.query c l t (cheapest ◌+◌ s.query) same,
             long,
           )
 
@@ -136,5 +136,4 @@ pub ruleset solving = (
   cells_few,
   cells_enough,
   cells_later,
-  standing_valid,
 )

@@ -1,10 +1,10 @@
 -- How the code's planner and answers stand for the rules': a number and values for each case of an answer (rule 12.3).
-use Rattle.std.specs.Prelude.{◌≡◌, true}
+use Rattle.std.specs.Prelude.{◌≡◌, Option, Some, None}
 use Rattle.std.proofs.Math.Option.{none, some}
 use Rattle.relations.specs.Trees.{subqueries}
-use Rattle.query.specs.Choice.{pick}
 use Rattle.query.specs.Query.{Valid, relations_of}
 use Rattle.planner.specs.declared.Planner.{Planner}
+use Rattle.planner.specs.declared.Standing.{Standing}
 use Rattle.planner.specs.declared.LoadAnswer.{LoadAnswer}
 use Rattle.planner.specs.declared.LinkAnswer.{LinkAnswer}
 use Rattle.planner.specs.declared.SolveAnswer.{SolveAnswer}
@@ -16,9 +16,13 @@ use Rattle.planner.specs.Link as Link
 use Rattle.planner.specs.Solve as Solve
 use Rattle.planner.specs.Check as Check
 
--- The standing state of a planner.
+-- The standing state of a planner: the query of what stands.
+abbrev pub stands_in : Option Standing → State
+stands_in None = none
+stands_in (Some s) = some s.query
+
 abbrev pub state_of : Planner → State
-state_of p = pick p.loaded (some p.query) none
+state_of p = stands_in p.standing
 
 -- An answer and the state of the planner that the call leaves.
 abbrev pub done_of : {Answer : Type 0} → Answer → Planner → Done Answer
@@ -42,8 +46,7 @@ abbrev pub of_check : CheckAnswer → Check.Answer
 of_check (CheckAnswer.Accepted c) = Check.allowed c.0
 of_check (CheckAnswer.Refused k place) = Check.refused k place
 
--- What holds of every planner that the calls make: a standing query is valid, and its subqueries are counted. Every list of calls gives such a planner:
--- `Runs` and its laws.
+-- What holds of every planner, as the type has it: a standing query is valid, and its subqueries are counted.
 pub record Sound (p : Planner) : Type 0 where
-  pub valid : p.loaded ≡ true → Valid p.query
-  pub counted : p.loaded ≡ true → p.subqueries ≡ subqueries p.query.joins (relations_of p.query)
+  pub valid : (s : Standing) → p.standing ≡ Some s → Valid s.query
+  pub counted : (s : Standing) → p.standing ≡ Some s → s.subqueries ≡ subqueries s.query.joins (relations_of s.query)

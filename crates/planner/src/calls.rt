@@ -4,9 +4,9 @@ ghost use Rattle.std.proofs.Math.Option.{none};
 ghost use Rattle.planner.specs.Link.{link, link_of, sites_listed, terms_in_range, relined_by};
 ghost use Rattle.planner.specs.Solve.{solving_of, solve, used, needed};
 ghost use Rattle.planner.specs.Check.{check};
-ghost use Rattle.planner.specs.Code.{state_of, done_of, of_link, of_solve, of_check, Sound};
+ghost use Rattle.planner.specs.Code.{state_of, done_of, of_link, of_solve, of_check};
 
-use crate::{AfterLink, CheckAnswer, LONGEST_PLAN, LinkAnswer, Planner, SolveAnswer};
+use crate::{After, CheckAnswer, LONGEST_PLAN, LinkAnswer, Planner, SolveAnswer, Standing};
 use query::Query;
 use rules::Checked;
 use sections::{MOST_FIXED, MOST_RATE};
@@ -14,13 +14,9 @@ use solver::Solution;
 
 // The empty planner: nothing stands.
 pub fn empty() -> Planner
-    ensures { (state_of result ≡ none) × Sound result }
+    ensures { state_of result ≡ none }
 {
-    Planner {
-        loaded: false,
-        query: query::no_query(),
-        subqueries: 0,
-    }
+    Planner { standing: None }
 }
 
 // The two sites of a link are listed, and are two.
@@ -52,66 +48,75 @@ fn relined(q: Query, sender: u64, receiver: u64, opened: u64, fixed: u64, rate: 
 }
 
 // Link: replaces the line from the sender to the receiver.
-pub fn link(p: Planner, sender: u64, receiver: u64, opened: u64, fixed: u64, rate: u64) -> AfterLink
-    requires { Sound p }
-    ensures done { done_of (of_link result.answer) result.planner ≡ link (link_of sender receiver opened fixed rate) (state_of p) }
-    ensures sound { Sound result.planner }
+#[tactic(auto, using(crate::proofs::Linking::linking))]
+pub fn link(
+    p: Planner,
+    sender: u64,
+    receiver: u64,
+    opened: u64,
+    fixed: u64,
+    rate: u64,
+) -> After<LinkAnswer>
+    ensures { done_of (of_link result.answer) result.planner ≡ link (link_of sender receiver opened fixed rate) (state_of p) }
 {
-    if !p.loaded {
-        return AfterLink {
+    let Some(standing) = p.standing else {
+        return After {
             answer: LinkAnswer::Refused(20),
             planner: p,
         };
-    }
-    let q = p.query;
+    };
+    let q = standing.query;
     if !sites_listed(q.sites.count as u64, sender, receiver) {
-        return AfterLink {
+        return After {
             answer: LinkAnswer::Refused(6),
             planner: p,
         };
     }
     if !terms_in_range(opened, fixed, rate) {
-        return AfterLink {
+        return After {
             answer: LinkAnswer::Refused(3),
             planner: p,
         };
     }
-    AfterLink {
+    let linked = Standing {
+        query: relined(q, sender, receiver, opened, fixed, rate),
+        subqueries: standing.subqueries,
+    };
+    After {
         answer: LinkAnswer::Linked,
         planner: Planner {
-            query: relined(q, sender, receiver, opened, fixed, rate),
-            ..p
+            standing: Some(linked),
         },
     }
 }
 
 // How many cells solve needs: one for each subquery and site of the standing query, none where nothing stands.
+#[tactic(auto, using(crate::proofs::Cells::needing))]
 pub fn cells_needed(p: Planner) -> usize
-    requires { Sound p }
     ensures { result ≡ needed (state_of p) }
 {
-    if !p.loaded {
+    let Some(standing) = p.standing else {
         return 0;
-    }
-    p.subqueries * p.query.sites.count
+    };
+    standing.subqueries * standing.query.sites.count
 }
 
 // Solve: writes the cheapest plan at the front of the output and answers its cost, its length and the trials, or answers no route with the
 // trials. The plan is first written into an array of its own, so that no byte of the output is touched before it is known that it fits.
 // Of the cells those past the used ones are said to stay.
+#[tactic(auto, using(crate::proofs::Solving::solving))]
 pub fn solve(p: Planner, cells: &mut [u64], output: &mut [u8]) -> SolveAnswer
-    requires { Sound p }
     ensures solved { solving_of (of_solve result) output.new ≡ solve (length cells.old) output.old (state_of p) }
     ensures later { drop (used (state_of p) (length cells.old)) cells.new ≡ drop (used (state_of p) (length cells.old)) cells.old }
 {
-    if !p.loaded {
+    let Some(standing) = p.standing else {
         return SolveAnswer::Refused(20);
-    }
+    };
     if cells.len() < cells_needed(p) {
         return SolveAnswer::Refused(21);
     }
     let mut plan = [0u8; LONGEST_PLAN];
-    let s = solver::solve(p.query, cells, &mut plan);
+    let s = solver::solve(standing.query, cells, &mut plan);
     match s {
         Solution::NoRoute { trials } => SolveAnswer::NoRoute { trials },
         Solution::Found {
@@ -133,17 +138,17 @@ pub fn solve(p: Planner, cells: &mut [u64], output: &mut [u8]) -> SolveAnswer
 }
 
 // Check: answers the plan's cost.
+#[tactic(auto, using(crate::proofs::Checking::checking))]
 pub fn check(p: Planner, plan: &[u8]) -> CheckAnswer
-    requires { Sound p }
     ensures { of_check result ≡ check plan.now (state_of p) }
 {
-    if !p.loaded {
+    let Some(standing) = p.standing else {
         return CheckAnswer::Refused {
             number: 20,
             place: 0,
         };
-    }
-    let c = rules::check(p.query, plan);
+    };
+    let c = rules::check(standing.query, plan);
     match c {
         Checked::Accepted(cost) => CheckAnswer::Accepted { cost },
         Checked::Rejected { number, place } => CheckAnswer::Refused { number, place },

@@ -1,6 +1,10 @@
 // The planner: the standing state, the two loads, and the calls link, solve and check.
 #![tactic(auto)]
 
+ghost use Rattle.std.specs.Prelude.{◌≡◌};
+ghost use Rattle.query.specs.Query.{Valid};
+ghost use Rattle.planner.specs.Counted.{subqueries_of};
+
 mod calls;
 mod loads;
 
@@ -12,14 +16,20 @@ pub use rules::LONGEST_PLAN;
 // The most cells that solve ever needs (`most_cells`).
 pub const CELLS: usize = 2112;
 
-// The standing state. Its fields are private, so that only the calls make one.
+// The standing state: a query, or nothing. Its field is private, so that only the calls make one.
 #[derive(Clone, Copy)]
 pub struct Planner {
-    // Whether a query stands, and the query.
-    loaded: bool,
+    standing: Option<Standing>,
+}
+
+// A query that stands: it is valid, and its subqueries are counted.
+#[derive(Clone, Copy)]
+struct Standing {
     query: Query,
     // How many subqueries it has, as the load counted them: solve has to know how many cells it needs before it touches one.
     subqueries: usize,
+    ghost valid: { Valid query },
+    ghost counted: { subqueries ≡ subqueries_of query },
 }
 
 // What a load answers: the number of relations and of subqueries, or the refusal's number.
@@ -59,13 +69,7 @@ pub enum CheckAnswer {
 
 // An answer beside the planner that the call leaves.
 #[derive(Clone, Copy)]
-pub struct AfterLoad {
-    pub answer: LoadAnswer,
-    pub planner: Planner,
-}
-
-#[derive(Clone, Copy)]
-pub struct AfterLink {
-    pub answer: LinkAnswer,
+pub struct After<T> {
+    pub answer: T,
     pub planner: Planner,
 }
