@@ -6,11 +6,10 @@ ghost use Rattle.planner.specs.Solve.{solving_of, solve, used, needed};
 ghost use Rattle.planner.specs.Check.{check};
 ghost use Rattle.planner.specs.Code.{state_of, done_of, of_link, of_solve, of_check};
 
-use crate::{After, CheckAnswer, LONGEST_PLAN, LinkAnswer, Planner, SolveAnswer, Standing};
+use crate::{After, CheckAnswer, LONGEST_PLAN, Planner, Refusal, Solution, Standing};
 use query::Query;
 use rules::Checked;
 use sections::{MOST_FIXED, MOST_RATE};
-use solver::Solution;
 
 // The empty planner: nothing stands.
 pub fn empty() -> Planner
@@ -56,34 +55,24 @@ pub fn link(
     opened: u64,
     fixed: u64,
     rate: u64,
-) -> After<LinkAnswer>
+) -> After<()>
     ensures { done_of (of_link result.answer) result.planner ≡ link (link_of sender receiver opened fixed rate) (state_of p) }
 {
     let Some(standing) = p.standing else {
-        return After {
-            answer: LinkAnswer::Refused(20),
-            planner: p,
-        };
+        return After::refused(p, Refusal::NothingLoaded);
     };
-    let q = standing.query;
-    if !sites_listed(q.sites.count as u64, sender, receiver) {
-        return After {
-            answer: LinkAnswer::Refused(6),
-            planner: p,
-        };
+    if !sites_listed(standing.query.sites.count as u64, sender, receiver) {
+        return After::refused(p, Refusal::LinkSites);
     }
     if !terms_in_range(opened, fixed, rate) {
-        return After {
-            answer: LinkAnswer::Refused(3),
-            planner: p,
-        };
+        return After::refused(p, Refusal::OutOfRange);
     }
     let linked = Standing {
-        query: relined(q, sender, receiver, opened, fixed, rate),
+        query: relined(standing.query, sender, receiver, opened, fixed, rate),
         subqueries: standing.subqueries,
     };
     After {
-        answer: LinkAnswer::Linked,
+        answer: Ok(()),
         planner: Planner {
             standing: Some(linked),
         },
@@ -105,36 +94,23 @@ pub fn cells_needed(p: Planner) -> usize
 // trials. The plan is first written into an array of its own, so that no byte of the output is touched before it is known that it fits.
 // Of the cells those past the used ones are said to stay.
 #[tactic(auto, using(crate::proofs::Solving::solving))]
-pub fn solve(p: Planner, cells: &mut [u64], output: &mut [u8]) -> SolveAnswer
+pub fn solve(p: Planner, cells: &mut [u64], output: &mut [u8]) -> Result<Solution, Refusal>
     ensures solved { solving_of (of_solve result) output.new ≡ solve (length cells.old) output.old (state_of p) }
     ensures later { drop (used (state_of p) (length cells.old)) cells.new ≡ drop (used (state_of p) (length cells.old)) cells.old }
 {
-    let Some(standing) = p.standing else {
-        return SolveAnswer::Refused(20);
-    };
+    let standing = p.standing.ok_or(Refusal::NothingLoaded)?;
     if cells.len() < cells_needed(p) {
-        return SolveAnswer::Refused(21);
+        return Err(Refusal::FewCells);
     }
     let mut plan = [0u8; LONGEST_PLAN];
-    let s = solver::solve(standing.query, cells, &mut plan);
-    match s {
-        Solution::NoRoute { trials } => SolveAnswer::NoRoute { trials },
-        Solution::Found {
-            cost,
-            length,
-            trials,
-        } => {
-            if output.len() < length {
-                return SolveAnswer::Refused(23);
-            }
-            output[..length].copy_from_slice(&plan[..length]);
-            SolveAnswer::Found {
-                cost,
-                length: length as u64,
-                trials,
-            }
+    let solution = solver::solve(standing.query, cells, &mut plan);
+    if let Solution::Found { length, .. } = solution {
+        if output.len() < length {
+            return Err(Refusal::ShortOutput);
         }
+        output[..length].copy_from_slice(&plan[..length]);
     }
+    Ok(solution)
 }
 
 // Check: answers the plan's cost.

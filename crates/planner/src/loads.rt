@@ -3,19 +3,19 @@ ghost use Rattle.std.specs.Prelude.{◌≡◌};
 ghost use Rattle.planner.specs.Load.{load_by, load, load_rows};
 ghost use Rattle.planner.specs.Code.{state_of, done_of, of_load};
 
-use crate::{After, LoadAnswer, Planner, Standing};
+use crate::{After, Loaded, Planner, Standing};
 use decoder::Form;
 use sections::Outcome;
 
 // Load: replaces the query by that of an ordinary file; answers the number of relations and of subqueries.
-pub fn load(p: Planner, file: &[u8]) -> After<LoadAnswer>
+pub fn load(p: Planner, file: &[u8]) -> After<Loaded>
     ensures { done_of (of_load result.answer) result.planner ≡ load file.now (state_of p) }
 {
     load_by(p, Form::Sizes, file)
 }
 
 // Load from row counts: the same of a file that has row counts and divisors in place of the sizes.
-pub fn load_rows(p: Planner, file: &[u8]) -> After<LoadAnswer>
+pub fn load_rows(p: Planner, file: &[u8]) -> After<Loaded>
     ensures { done_of (of_load result.answer) result.planner ≡ load_rows file.now (state_of p) }
 {
     load_by(p, Form::Rows, file)
@@ -25,26 +25,23 @@ pub fn load_rows(p: Planner, file: &[u8]) -> After<LoadAnswer>
 // The room that it takes of the stack is to be free again before a solve takes its own.
 #[inline(never)]
 #[tactic(auto, using(crate::proofs::Loading::loading))]
-fn load_by(p: Planner, form: Form, file: &[u8]) -> After<LoadAnswer>
+fn load_by(p: Planner, form: Form, file: &[u8]) -> After<Loaded>
     ensures { done_of (of_load result.answer) result.planner ≡ load_by form file.now (state_of p) }
 {
     let d = decoder::decode(form, file);
     let o = d.outcome;
     match o {
-        Outcome::Refused(k) => After {
-            answer: LoadAnswer::Refused(k),
-            planner: p,
-        },
+        Outcome::Refused(k) => After::refused(p, k),
         Outcome::Whole => {
             let standing = Standing {
                 query: d.query,
                 subqueries: d.subqueries,
             };
             After {
-                answer: LoadAnswer::Loaded {
+                answer: Ok(Loaded {
                     relations: d.query.relations.count as u64,
                     subqueries: d.subqueries as u64,
-                },
+                }),
                 planner: Planner {
                     standing: Some(standing),
                 },
