@@ -49,6 +49,14 @@ pub struct Lines {
     pub rate: [u32; 64],
 }
 
+// The terms of a site or a line: its flag, fixed amount and rate.
+#[derive(Clone, Copy)]
+pub struct Terms {
+    pub flag: u8,
+    pub fixed: u32,
+    pub rate: u32,
+}
+
 // A query. The size of subquery S stands at S; where S is no subquery the size is 0.
 #[derive(Clone, Copy)]
 pub struct Query {
