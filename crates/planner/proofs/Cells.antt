@@ -30,42 +30,19 @@ abbrev pub ample_cells : ℕ
 ample_cells = most_cells
 
 -- What the code multiplies is the need, which is no more than the most.
+pub need_fits : (s : Standing) → Fits w64 (s.subqueries * sites_of s.query)
+unfolding cells_needed
+need_fits s =
+    let same : s.subqueries * sites_of s.query ≡ cells_needed s.query = rw s.counted in
+    record { fits = omega (arith, same, most_cells_lem s.query s.valid) }
+
+-- So many are enough whatever stands.
 stands_most : (o : Option Standing) → needed (stands_in o) ≤ ample_cells
 stands_most None = omega arith
 stands_most (Some s) = most_cells_lem s.query s.valid
 
-module _ (p : Planner) where
-  -- So many are enough whatever stands.
-  pub needed_enough : (n : ℕ) → ample_cells ≤ n → needed (state_of p) ≤ n
-  needed_enough n h = omega (arith, stands_most p.standing)
-
-  module _ (s : Standing) (stands : p.standing ≡ Some s) where
-    pub need_is : s.subqueries * sites_of s.query ≡ needed (state_of p)
-    unfolding cells_needed
-    need_is = rw (stands, s.counted)
-
-    pub need_fits : Fits w64 (s.subqueries * sites_of s.query)
-    need_fits = record { fits = omega (arith, need_is, stands_most p.standing) }
-
-pub ruleset needing = (need_is, need_fits)
-
--- The code's test against the need m is that of the standing query's cells.
-module _ (p : Planner) (s : Standing) (n m : ℕ) (stands : p.standing ≡ Some s) (need : m ≡ needed (state_of p)) where
-  here : m ≡ cells_needed s.query
-  here = rw stands at need
-
-  pub cells_few : n < m → n < cells_needed s.query
-  cells_few h = omega (arith, here)
-
-  pub cells_enough : m ≤ n → cells_needed s.query ≤ n
-  cells_enough h = omega (arith, here)
-
--- Where solve goes on, the cells that it uses are those that it needs.
-pub cells_later :
-    (p : Planner) (s : Standing) (new old : List ℕ) → p.standing ≡ Some s → cells_needed s.query ≤ length old →
-    drop (cells_needed s.query) new ≡ drop (cells_needed s.query) old →
-    drop (used (state_of p) (length old)) new ≡ drop (used (state_of p) (length old)) old
-cells_later p s new old stands enough e = rw (stands, le-ltb (length old) (cells_needed s.query) enough) e
+pub needed_enough : (p : Planner) (n : ℕ) → ample_cells ≤ n → needed (state_of p) ≤ n
+needed_enough p n h = omega (arith, stands_most p.standing)
 
 -- With cells enough solve comes to what the query costs.
 pub solve_is : (s : State) (q : Query) (n : ℕ) (out : List ℕ) → s ≡ some q → cells_needed q ≤ n → solve n out s ≡ solved q (cheapest ◌+◌ q) out

@@ -1,13 +1,14 @@
 // The calls but for the loads. The state goes in by value; link, which may change it, hands it back, and a refusal hands back what came in.
-ghost use Rattle.std.specs.Prelude.{◌≤◌, ◌<◌, ◌≡◌, length, drop};
+ghost use Rattle.std.specs.Prelude.{◌<◌, ◌≡◌, length, drop};
 ghost use Rattle.std.proofs.Math.Option.{none};
-ghost use Rattle.planner.specs.Link.{link, link_of, sites_listed, terms_in_range, relined_by};
+ghost use Rattle.query.specs.Terms.{relined};
+ghost use Rattle.planner.specs.Link.{link, link_of, sites_listed, terms_in_range};
 ghost use Rattle.planner.specs.Solve.{solving_of, solve, used, needed};
 ghost use Rattle.planner.specs.Check.{check};
 ghost use Rattle.planner.specs.Code.{state_of, done_of, of_link, of_solve, of_check};
 
 use crate::{After, CheckAnswer, LONGEST_PLAN, Planner, Refusal, Solution, Standing};
-use query::Query;
+use query::{Query, Terms};
 use rules::Checked;
 use sections::{MOST_FIXED, MOST_RATE};
 
@@ -19,6 +20,7 @@ pub fn empty() -> Planner
 }
 
 // The two sites of a link are listed, and are two.
+#[tactic(auto, unfolding(crate::specs::Link::sites_listed))]
 fn sites_listed(s: u64, sender: u64, receiver: u64) -> bool
     ensures { result ≡ sites_listed s sender receiver }
 {
@@ -26,28 +28,28 @@ fn sites_listed(s: u64, sender: u64, receiver: u64) -> bool
 }
 
 // The terms of a link are in range.
+#[tactic(auto, unfolding(crate::specs::Link::terms_in_range))]
 fn terms_in_range(opened: u64, fixed: u64, rate: u64) -> bool
     ensures { result ≡ terms_in_range (record { flag = opened; fixed = fixed; rate = rate }) }
 {
     (opened <= 1) & (fixed <= MOST_FIXED) & (rate <= MOST_RATE)
 }
 
-// The query with the line from the sender to the receiver replaced, its terms in the types that their limits fit.
-fn relined(q: Query, sender: u64, receiver: u64, opened: u64, fixed: u64, rate: u64) -> Query
-    requires listed { (sender < 8) × (receiver < 8) }
-    requires in_range { (opened ≤ 1) × (fixed ≤ 1000000) × (rate ≤ 1000) }
-    ensures { result ≡ relined_by q (link_of sender receiver opened fixed rate) }
+// The query with the line from the sender to the receiver replaced.
+fn relined(q: Query, sender: usize, receiver: usize, terms: Terms) -> Query
+    requires { (sender < 8) × (receiver < 8) }
+    ensures { result ≡ relined q sender receiver terms }
 {
-    let at = 8 * (sender as usize) + (receiver as usize);
+    let at = 8 * sender + receiver;
     let mut lines = q.lines;
-    lines.flag[at] = opened as u8;
-    lines.fixed[at] = fixed as u32;
-    lines.rate[at] = rate as u32;
+    lines.flag[at] = terms.flag;
+    lines.fixed[at] = terms.fixed;
+    lines.rate[at] = terms.rate;
     Query { lines, ..q }
 }
 
 // Link: replaces the line from the sender to the receiver.
-#[tactic(auto, using(crate::proofs::Linking::linking))]
+#[tactic(auto, unfolding(crate::specs::Link::link, crate::specs::Link::sites_listed, crate::specs::Link::terms_in_range))]
 pub fn link(
     p: Planner,
     sender: u64,
@@ -67,8 +69,14 @@ pub fn link(
     if !terms_in_range(opened, fixed, rate) {
         return After::refused(p, Refusal::OutOfRange);
     }
+    // In the types that their limits fit.
+    let terms = Terms {
+        flag: opened as u8,
+        fixed: fixed as u32,
+        rate: rate as u32,
+    };
     let linked = Standing {
-        query: relined(standing.query, sender, receiver, opened, fixed, rate),
+        query: relined(standing.query, sender as usize, receiver as usize, terms),
         subqueries: standing.subqueries,
     };
     After {
@@ -80,7 +88,7 @@ pub fn link(
 }
 
 // How many cells solve needs: one for each subquery and site of the standing query, none where nothing stands.
-#[tactic(auto, using(crate::proofs::Cells::needing))]
+#[tactic(auto, unfolding(tables::specs::Work::cells_needed))]
 pub fn cells_needed(p: Planner) -> usize
     ensures { result ≡ needed (state_of p) }
 {
@@ -93,7 +101,7 @@ pub fn cells_needed(p: Planner) -> usize
 // Solve: writes the cheapest plan at the front of the output and answers its cost, its length and the trials, or answers no route with the
 // trials. The plan is first written into an array of its own, so that no byte of the output is touched before it is known that it fits.
 // Of the cells those past the used ones are said to stay.
-#[tactic(auto, using(crate::proofs::Solving::solving))]
+#[tactic(auto, using(crate::proofs::Solving::solving), unfolding(crate::specs::Solve::solve))]
 pub fn solve(p: Planner, cells: &mut [u64], output: &mut [u8]) -> Result<Solution, Refusal>
     ensures solved { solving_of (of_solve result) output.new ≡ solve (length cells.old) output.old (state_of p) }
     ensures later { drop (used (state_of p) (length cells.old)) cells.new ≡ drop (used (state_of p) (length cells.old)) cells.old }
@@ -114,7 +122,7 @@ pub fn solve(p: Planner, cells: &mut [u64], output: &mut [u8]) -> Result<Solutio
 }
 
 // Check: answers the plan's cost.
-#[tactic(auto, using(crate::proofs::Checking::checking))]
+#[tactic(auto, unfolding(crate::specs::Check::check))]
 pub fn check(p: Planner, plan: &[u8]) -> CheckAnswer
     ensures { of_check result ≡ check plan.now (state_of p) }
 {

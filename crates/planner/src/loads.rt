@@ -4,8 +4,7 @@ ghost use Rattle.planner.specs.Load.{load_by, load, load_rows};
 ghost use Rattle.planner.specs.Code.{state_of, done_of, of_load};
 
 use crate::{After, Loaded, Planner, Standing};
-use decoder::Form;
-use sections::Outcome;
+use decoder::{Decoded, Form};
 
 // Load: replaces the query by that of an ordinary file; answers the number of relations and of subqueries.
 pub fn load(p: Planner, file: &[u8]) -> After<Loaded>
@@ -24,28 +23,20 @@ pub fn load_rows(p: Planner, file: &[u8]) -> After<Loaded>
 // A load of a file of either form.
 // The room that it takes of the stack is to be free again before a solve takes its own.
 #[inline(never)]
-#[tactic(auto, using(crate::proofs::Loading::loading))]
+#[tactic(auto, unfolding(crate::specs::Load::load_by))]
 fn load_by(p: Planner, form: Form, file: &[u8]) -> After<Loaded>
     ensures { done_of (of_load result.answer) result.planner ≡ load_by form file.now (state_of p) }
 {
-    let d = decoder::decode(form, file);
-    let o = d.outcome;
-    match o {
-        Outcome::Refused(k) => After::refused(p, k),
-        Outcome::Whole => {
-            let standing = Standing {
-                query: d.query,
-                subqueries: d.subqueries,
-            };
-            After {
-                answer: Ok(Loaded {
-                    relations: d.query.relations.count as u64,
-                    subqueries: d.subqueries as u64,
-                }),
-                planner: Planner {
-                    standing: Some(standing),
-                },
-            }
-        }
+    match decoder::decode(form, file) {
+        Err(refusal) => After::refused(p, refusal),
+        Ok(Decoded { query, subqueries }) => After {
+            answer: Ok(Loaded {
+                relations: query.relations.count as u64,
+                subqueries: subqueries as u64,
+            }),
+            planner: Planner {
+                standing: Some(Standing { query, subqueries }),
+            },
+        },
     }
 }
