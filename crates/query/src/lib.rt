@@ -21,7 +21,7 @@ pub struct Bytes(pub u64);
 pub struct Parcels(pub u64);
 
 // A count of charge units: a price or a cost.
-#[derive(Clone, Copy)]
+#[derive(Clone, Copy, Default)]
 pub struct Charge(pub u64);
 
 // The sites: whether each may join (1) or not (0), and its join's fixed amount and rate.
