@@ -1,15 +1,16 @@
 -- How the code's planner and answers stand for the rules': a number and values for each case of an answer (rule 12.3).
 use Rattle.std.specs.Prelude.{◌≡◌, Option, Some, None, Result, Ok, Err}
 use Rattle.std.proofs.Math.Option.{none, some}
+use Rattle.query.specs.declared.Charge.{Charge}
 use Rattle.query.specs.declared.refusal.Refusal.{Refusal}
 use Rattle.query.specs.Query.{Valid}
 use Rattle.query.specs.Refusals.{number_of}
+use Rattle.rules.specs.declared.Rejection.{Rejection}
 use Rattle.solver.specs.declared.Solution.{Solution}
 use Rattle.solver.specs.declared.Solution.TheVariants.{Found, NoRoute}
 use Rattle.planner.specs.declared.Planner.{Planner}
 use Rattle.planner.specs.declared.Standing.{Standing}
 use Rattle.planner.specs.declared.Loaded.{Loaded}
-use Rattle.planner.specs.declared.CheckAnswer.{CheckAnswer}
 use Rattle.planner.specs.Counted.{subqueries_of}
 use Rattle.planner.specs.State.{State}
 use Rattle.planner.specs.Done.{Done, done_with}
@@ -44,9 +45,9 @@ of_solve (Ok (Found c l t)) = Solve.found c.0 l t
 of_solve (Ok (NoRoute t)) = Solve.no_route t
 of_solve (Err r) = Solve.refused (number_of r)
 
-abbrev pub of_check : CheckAnswer → Check.Answer
-of_check (CheckAnswer.Accepted c) = Check.allowed c.0
-of_check (CheckAnswer.Refused k place) = Check.refused k place
+abbrev pub of_check : Result Charge Rejection → Check.Answer
+of_check (Ok c) = Check.allowed c.0
+of_check (Err r) = Check.refused (number_of r.refusal) r.place
 
 -- What holds of every planner, as the type has it: a standing query is valid, and its subqueries are counted.
 pub record Sound (p : Planner) : Type 0 where

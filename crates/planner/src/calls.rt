@@ -7,9 +7,8 @@ ghost use Rattle.planner.specs.Solve.{solving_of, solve, used, needed};
 ghost use Rattle.planner.specs.Check.{check};
 ghost use Rattle.planner.specs.Code.{state_of, done_of, of_link, of_solve, of_check};
 
-use crate::{After, CheckAnswer, LONGEST_PLAN, Planner, Refusal, Solution, Standing};
-use query::{Query, Terms};
-use rules::Checked;
+use crate::{After, LONGEST_PLAN, Planner, Refusal, Rejection, Solution, Standing};
+use query::{Charge, Query, Terms};
 use sections::{MOST_FIXED, MOST_RATE};
 
 // The empty planner: nothing stands.
@@ -123,18 +122,14 @@ pub fn solve(p: Planner, cells: &mut [u64], output: &mut [u8]) -> Result<Solutio
 
 // Check: answers the plan's cost.
 #[tactic(auto, unfolding(crate::specs::Check::check))]
-pub fn check(p: Planner, plan: &[u8]) -> CheckAnswer
+pub fn check(p: Planner, plan: &[u8]) -> Result<Charge, Rejection>
     ensures { of_check result ≡ check plan.now (state_of p) }
 {
     let Some(standing) = p.standing else {
-        return CheckAnswer::Refused {
-            number: 20,
+        return Err(Rejection {
+            refusal: Refusal::NothingLoaded,
             place: 0,
-        };
+        });
     };
-    let c = rules::check(standing.query, plan);
-    match c {
-        Checked::Accepted(cost) => CheckAnswer::Accepted { cost },
-        Checked::Rejected { number, place } => CheckAnswer::Refused { number, place },
-    }
+    rules::check(&standing.query, plan)
 }

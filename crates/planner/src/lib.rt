@@ -12,7 +12,7 @@ pub use calls::{cells_needed, check, empty, link, solve};
 pub use loads::{load, load_rows};
 use query::Query;
 pub use query::{Charge, Refusal};
-pub use rules::LONGEST_PLAN;
+pub use rules::{LONGEST_PLAN, Rejection};
 pub use solver::Solution;
 
 // The most cells that solve ever needs (`most_cells`).
@@ -39,13 +39,6 @@ struct Standing {
 pub struct Loaded {
     pub relations: u64,
     pub subqueries: u64,
-}
-
-// What check answers: the plan's cost, or the refusal's number and place.
-#[derive(Clone, Copy)]
-pub enum CheckAnswer {
-    Accepted { cost: Charge },
-    Refused { number: u64, place: u64 },
 }
 
 // A call's answer, or its refusal, beside the planner that it leaves.
