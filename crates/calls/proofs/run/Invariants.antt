@@ -1,9 +1,6 @@
--- `run` ends, since it counts down, and every turn hands back a sound planner.
+-- Every turn of `run` hands back a sound planner.
 use Rattle.planner.specs.Code.{Sound}
 use Rattle.calls.proofs.run.Given as goal
 
-abbrev pub invariant-loop-left : goal.invariant-loop-left
-invariant-loop-left g l = Sound l.p
-
-abbrev pub decreases-loop-left : goal.decreases-loop-left
-decreases-loop-left g l = l.left
+abbrev pub invariant-loop : goal.invariant-loop
+invariant-loop g l = Sound l.p

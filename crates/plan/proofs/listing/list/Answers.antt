@@ -1,10 +1,12 @@
 -- The file is loaded on an empty planner: each answer is a case of the definition.
-use borrow.Author.Rules.{rules}
-use Rattle.plan.proofs.Answers.{loading-laws}
+use mathlib.Core.Path.{refl}
+use Rattle.plan.specs.Lines.{lines}
 use Rattle.plan.proofs.listing.list.Goals as goal
 
 pub returns-in-Refused : goal.returns-in-Refused
-returns-in-Refused g c = search (rules, loading-laws)
+unfolding lines
+returns-in-Refused c = rw (← c.empty.ensures.0, ← c.load-loaded.ensures.done, c.in-Refused.is) refl
 
 pub returns-in-Loaded : goal.returns-in-Loaded
-returns-in-Loaded g c = search (rules, loading-laws)
+unfolding lines
+returns-in-Loaded c = rw (← c.empty.ensures.0, ← c.load-loaded.ensures.done, c.in-Loaded.is) c.solved.ensures
