@@ -6,7 +6,6 @@ use mathlib.Core.Path.{◌≡◌, refl}
 use mathlib.Core.Bool.{Bool, true, false}
 use lib.Dec.{eqb, leb}
 use borrow.Author.Tests.{ne_eqb, eqb-false, leb-true, leb-false}
-use Rattle.relations.proofs.Leads.{clash}
 use Rattle.query.specs.declared.Query.{Query}
 use Rattle.query.specs.Choice.{pick}
 use Rattle.query.specs.Cost.{none, some}
@@ -118,9 +117,9 @@ unfolding sending
 sending_is q P a b c e = go (eqb a b) (is_open q a b) refl refl e
   where
     go : (s o : Bool) → eqb a b ≡ s → is_open q a b ≡ o → pick s none (pick o (some (line_price q P a b)) none) ≡ some c → Sending q P a b c
-    go true o h g e = absurd (clash (cc))
+    go true o h g e = absurd (cc)
     go false true h g e = record { away = eqb-false a b h; opened = g; price = cc }
-    go false false h g e = absurd (clash (cc))
+    go false false h g e = absurd (cc)
 
 -- No send that is a number is above the dearest line.
 pub sending_most : (q : Query) → Valid q → (P a b c : ℕ) → sending q P a b ≡ some c → c ≤ dearest_line
