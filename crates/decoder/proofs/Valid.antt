@@ -1,7 +1,7 @@
 -- Every decoded query is valid, and a file that gives none is refused with 1 to 5: the sections' ranges, in reading order, make up what a query keeps to.
 use Prim.Native.Nat.{ℕ}
 use native.Mathlib.Omega.{arith}
-use mathlib.Core.Path.{◌≡◌, sym}
+use mathlib.Core.Path.{◌≡◌}
 use mathlib.Core.List.{List}
 use lib.ListN.{length}
 use lib.Dec.{eqb}
@@ -54,7 +54,3 @@ file_in f file =
 
 pub decode_valid : DecodeValid
 decode_valid f file q l e = rw e at (file_in f file)
-
--- The same of the code's answer.
-pub decoded_valid : (f : Form) (file : List ℕ) (q : Query) (l : List ℕ) → value q l ≡ decode f file → Valid q
-decoded_valid f file q l e = decode_valid f file q l (sym e)
