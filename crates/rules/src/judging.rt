@@ -10,6 +10,7 @@ use query::{Charge, Query, Refusal};
 use relations::whole;
 
 // The end condition: one result is held, with every relation, at the query site.
+#[tactic(auto, unfolding(crate::specs::Allowed::finish))]
 fn finish(q: &Query, state: &State) -> Result<Charge, Refusal>
     requires { relations_of q.now ≤ 9 }
     ensures { (i : ℕ) → verdict_at i result ≡ finish q.now i (machine_of state.now).stack }

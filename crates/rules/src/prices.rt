@@ -11,8 +11,9 @@ use query::{Bytes, Charge, Query, price};
 use relations::single;
 
 // The size of a set.
+#[tactic(auto, unfolding(query::specs::Query::size))]
 fn size(q: &Query, set: usize) -> Bytes
-    requires { Valid q.now × (set < most_sets) }
+    requires { Valid q.now × (set < 2 ^ relations_of q.now) }
     ensures { (result.0 ≡ size q.now set) × (result.0 ≤ 1000000000) }
 {
     Bytes(u64::from(q.sizes[set]))
@@ -35,6 +36,7 @@ fn join_price(q: &Query, a: Held, b: Held) -> Charge
 
 impl Held {
     // Relation r at its home, as it is loaded.
+    #[tactic(auto, unfolding(query::specs::Query::home))]
     pub(crate) fn bare(q: &Query, r: usize) -> Held
         requires { Valid q.now × (r < relations_of q.now) }
         ensures { result ≡ bare_of q.now r }
@@ -57,8 +59,9 @@ impl Held {
     }
 
     // What is sent, as it arrives at t.
+    #[tactic(auto, unfolding(query::specs::Prices::line_price, query::specs::Query::line_fixed, query::specs::Query::line_rate))]
     pub(crate) fn sent(self, q: &Query, t: usize) -> Held
-        requires { Valid q.now × (t < 8) × (self.site < 8) × (self.set < most_sets) × (self.figure.0 < 2 ^ 62) }
+        requires { Valid q.now × (t < 8) × (self.site < 8) × (self.set < 2 ^ relations_of q.now) × (self.figure.0 < 2 ^ 62) }
         ensures { result ≡ sent_to q.now t self }
     {
         let line = 8 * self.site + t;

@@ -20,6 +20,7 @@ fn may_send(q: &Query, top: Held, t: usize) -> bool
 }
 
 // Join e has one end in each of two sets.
+#[tactic(auto, unfolding(crate::specs::Machine::links))]
 fn links(q: &Query, e: usize, p: usize, r: usize) -> bool
     requires { e < 8 }
     ensures { result ≡ links q.now.joins e p r }
@@ -50,6 +51,7 @@ impl State {
     }
 
     // 1, load r: puts r, at its home, on top. Each relation at most once.
+    #[tactic(auto, unfolding(crate::specs::Machine::load))]
     fn load(&mut self, q: &Query, r: usize) -> Result<(), Refusal>
         requires { Valid q.now × Room (relations_of q.now) most_steps (machine_of self.old) }
         ensures outcome { outcome_of result self.new ≡ load q.now r (machine_of self.old) }
@@ -68,6 +70,7 @@ impl State {
     }
 
     // 2, send to t: moves the top to t.
+    #[tactic(auto, unfolding(crate::specs::Machine::send, crate::specs::Machine::send_top))]
     fn send(&mut self, q: &Query, t: usize) -> Result<(), Refusal>
         requires { Valid q.now × Room (relations_of q.now) most_steps (machine_of self.old) }
         ensures outcome { outcome_of result self.new ≡ send q.now t (machine_of self.old) }
@@ -86,6 +89,7 @@ impl State {
     }
 
     // 3, join e: the top two become one.
+    #[tactic(auto, unfolding(crate::specs::Machine::join, crate::specs::Machine::join_top))]
     fn join(&mut self, q: &Query, e: usize) -> Result<(), Refusal>
         requires { Valid q.now × Room (relations_of q.now) most_steps (machine_of self.old) }
         ensures outcome { outcome_of result self.new ≡ join ◌+◌ q.now e (machine_of self.old) }
