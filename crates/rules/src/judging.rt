@@ -42,7 +42,7 @@ fn is_whole(count: u8, bytes: &[u8]) -> bool
     ensures { result ≡ ((leb 1 count && leb count most_steps) && eqb (length bytes.now) (2 * count)) }
 {
     let count = usize::from(count);
-    1 <= count && count <= MOST_STEPS && bytes.len() == 2 * count
+    (1..=MOST_STEPS).contains(&count) && bytes.len() == 2 * count
 }
 
 // A plan's verdict. Refusal 7: the count is outside its limits, or the length isn't 1 + 2 × count. So nothing is read past the plan's end.

@@ -39,6 +39,7 @@ fn may_join(q: &Query, a: Held, b: Held, e: usize) -> bool
     a.site == b.site && q.sites.may[b.site] == 1 && links(q, e, a.set, b.set)
 }
 
+// Each step asks for room. It is no invariant of the state alone: it tells of the query and of how many steps were taken.
 impl State {
     // Nothing is loaded and nothing held.
     pub(crate) fn start() -> State
