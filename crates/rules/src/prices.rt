@@ -20,6 +20,7 @@ fn size(q: &Query, set: usize) -> Bytes
 }
 
 // The price of joining a and b, at the site of both.
+#[tactic(auto, using(query::proofs::Prices::reads_spared), unfolding(query::specs::Prices::join_price, query::specs::Query::join_fixed, query::specs::Query::join_rate))]
 fn join_price(q: &Query, a: Held, b: Held) -> Charge
     requires { Valid q.now × (b.site < 8) × (a.set + b.set < 2 ^ relations_of q.now) }
     ensures { (result.0 ≡ join_price q.now b.site (qualifies q.now a) a.set (qualifies q.now b) b.set) × (result.0 ≤ dearest_join) }
@@ -50,6 +51,7 @@ impl Held {
     }
 
     // Its index can be followed.
+    #[tactic(auto, using(query::proofs::Indexed::indexed_in_lem), unfolding(crate::specs::Machine::qualifies))]
     fn qualifies(self, q: &Query) -> bool
         requires { Valid q.now × (self.set < 2 ^ relations_of q.now) }
         ensures { result ≡ qualifies q.now self }
