@@ -22,6 +22,7 @@ fn finish(q: &Query, state: &State) -> Result<Charge, Refusal>
 }
 
 // The steps of a plan in order, and the end condition.
+#[tactic(auto, unfolding(crate::specs::Allowed::run))]
 fn run(q: &Query, steps: &[[u8; 2]]) -> Result<Charge, Rejection>
     requires { Valid q.now × (length steps.now ≤ most_steps) }
     ensures { verdict_of result ≡ run ◌+◌ q.now 0 (map step_of_bytes steps.now) start }
@@ -46,6 +47,7 @@ fn is_whole(count: u8, bytes: &[u8]) -> bool
 }
 
 // A plan's verdict. Refusal 7: the count is outside its limits, or the length isn't 1 + 2 × count. So nothing is read past the plan's end.
+#[tactic(auto, unfolding(crate::specs::Allowed::checked))]
 pub fn check(q: &Query, plan: &[u8]) -> Result<Charge, Rejection>
     requires { Valid q.now }
     ensures { verdict_of result ≡ checked ◌+◌ q.now plan.now }

@@ -110,6 +110,7 @@ impl State {
     }
 
     // A step by its kind and argument. Refusal 8: unknown kind, or argument not in the query.
+    #[tactic(auto, unfolding(crate::specs::Machine::step))]
     pub(crate) fn step(&mut self, q: &Query, bytes: [u8; 2]) -> Result<(), Refusal>
         requires { Valid q.now × Room (relations_of q.now) most_steps (machine_of self.old) }
         ensures outcome { outcome_of result self.new ≡ step ◌+◌ q.now (get_or bytes 0 0) (get_or bytes 1 0) (machine_of self.old) }
