@@ -20,6 +20,7 @@ fn may_send(q: &Query, top: Held, t: usize) -> bool
 }
 
 // Join e has one end in each of two sets.
+#[tactic(auto, unfolding(crate::specs::Machine::links))]
 fn links(q: &Query, e: usize, p: usize, r: usize) -> bool
     requires { e < 8 }
     ensures { result ≡ links q.now.joins e p r }
@@ -38,6 +39,7 @@ fn may_join(q: &Query, a: Held, b: Held, e: usize) -> bool
     a.site == b.site && q.sites.may[b.site] == 1 && links(q, e, a.set, b.set)
 }
 
+// Each step asks for room. It is no invariant of the state alone: it tells of the query and of how many steps were taken.
 impl State {
     // Nothing is loaded and nothing held.
     pub(crate) fn start() -> State
@@ -50,6 +52,7 @@ impl State {
     }
 
     // 1, load r: puts r, at its home, on top. Each relation at most once.
+    #[tactic(auto, unfolding(crate::specs::Machine::load))]
     fn load(&mut self, q: &Query, r: usize) -> Result<(), Refusal>
         requires { Valid q.now × Room (relations_of q.now) most_steps (machine_of self.old) }
         ensures outcome { outcome_of result self.new ≡ load q.now r (machine_of self.old) }
@@ -68,6 +71,7 @@ impl State {
     }
 
     // 2, send to t: moves the top to t.
+    #[tactic(auto, unfolding(crate::specs::Machine::send, crate::specs::Machine::send_top))]
     fn send(&mut self, q: &Query, t: usize) -> Result<(), Refusal>
         requires { Valid q.now × Room (relations_of q.now) most_steps (machine_of self.old) }
         ensures outcome { outcome_of result self.new ≡ send q.now t (machine_of self.old) }
@@ -86,6 +90,7 @@ impl State {
     }
 
     // 3, join e: the top two become one.
+    #[tactic(auto, unfolding(crate::specs::Machine::join, crate::specs::Machine::join_top))]
     fn join(&mut self, q: &Query, e: usize) -> Result<(), Refusal>
         requires { Valid q.now × Room (relations_of q.now) most_steps (machine_of self.old) }
         ensures outcome { outcome_of result self.new ≡ join ◌+◌ q.now e (machine_of self.old) }
@@ -105,6 +110,7 @@ impl State {
     }
 
     // A step by its kind and argument. Refusal 8: unknown kind, or argument not in the query.
+    #[tactic(auto, unfolding(crate::specs::Machine::step))]
     pub(crate) fn step(&mut self, q: &Query, bytes: [u8; 2]) -> Result<(), Refusal>
         requires { Valid q.now × Room (relations_of q.now) most_steps (machine_of self.old) }
         ensures outcome { outcome_of result self.new ≡ step ◌+◌ q.now (get_or bytes 0 0) (get_or bytes 1 0) (machine_of self.old) }
