@@ -67,5 +67,3 @@ place_first g m k low is some before = go (dec_lt (place_of g m) k) (dec_lt k (p
     go (yes l) d = absurd (omega (arith, before (place_of g m) l, found))
     go (no l) (yes d) = absurd (omega (arith, place_lowest g m k d))
     go (no l) (no d) = omega arith
-
--- The lowest place within a figure: one more that is not, as long as a later one is.
