@@ -10,9 +10,6 @@ loop-left-init c = settling_none _ _ _ _ c.requires.0 c.requires.1.few (c.whole-
 pub overflow_sub-left : goal.overflow_sub-left
 overflow_sub-left c = rw c.single-left.ensures (less_left c.loop-left.left _ c.nearest-k.ensures.among).0
 
-pub loop-left-smaller : goal.loop-left-smaller
-loop-left-smaller c = rw c.single-left.ensures (less_left c.loop-left.left _ c.nearest-k.ensures.among).1
-
 pub loop-left-preserved : goal.loop-left-preserved
 loop-left-preserved c =
     rw c.single-left.ensures
