@@ -46,7 +46,7 @@ fn joins_within(board: &[u64; BOARD], set: usize) -> usize
 }
 
 // What the whole query costs at the query site, as a figure. Its cells are nobody's part, so that they are not kept.
-pub(crate) fn cheapest<'a>(tables: Tables<'a>, target: usize) -> u64
+pub(crate) fn cheapest(tables: Tables<'_>, target: usize) -> u64
     requires { (q : Query) × ((LaidOut q (lent_of tables) × Filled ◌+◌ q tables.places.now tables.work.now (all (relations_of q))) × (q.target ≡ target)) }
     ensures { (q : Query) → LaidOut q (lent_of tables.entry) →
         Filled ◌+◌ q tables.entry.places.now tables.entry.work.now (all (relations_of q)) → q.target ≡ target → result ≡ mark (cheapest ◌+◌ q) }
@@ -66,7 +66,7 @@ pub struct Due {
 }
 
 // The site where a set is joined for its delivery, and the carriage from there.
-fn join_site<'a>(tables: Tables<'a>, due: Due) -> Choice
+fn join_site(tables: Tables<'_>, due: Due) -> Choice
     requires { (q : Query) × (ToDeliver ◌+◌ q (lent_of tables) due.set due.site due.figure × (ones due.set ≡ 1 → ⊥)) }
     ensures { (result.at ≡ site_by ◌+◌ (lent_of tables.entry) due.set due.site)
         × (result.figure ≡ carriage_in tables.entry.board.now (size_in (lent_of tables.entry) due.set) result.at due.site) }
@@ -82,7 +82,7 @@ fn join_site<'a>(tables: Tables<'a>, due: Due) -> Choice
 }
 
 // The join that is taken last for a set at site k.
-fn last_join<'a>(tables: Tables<'a>, set: usize, k: usize) -> usize
+fn last_join(tables: Tables<'_>, set: usize, k: usize) -> usize
     requires { (q : Query) × (ToJoin ◌+◌ q (lent_of tables) set k) }
     ensures { result ≡ join_by ◌+◌ (lent_of tables.entry) set k }
 {
@@ -101,7 +101,7 @@ fn last_join<'a>(tables: Tables<'a>, set: usize, k: usize) -> usize
 }
 
 // A set at a site, by its cell.
-fn due_at<'a>(tables: Tables<'a>, set: usize, k: usize) -> Due
+fn due_at(tables: Tables<'_>, set: usize, k: usize) -> Due
     requires { ((set < most_sets) × (k < 8)) × (place_in tables.places.now set k < length tables.work.now) }
     ensures { result ≡ due_of set k (cell_in (lent_of tables.entry) set k) }
 {
@@ -115,14 +115,14 @@ fn due_at<'a>(tables: Tables<'a>, set: usize, k: usize) -> Due
 
 // Writes the steps that deliver a set at a site: the load for one relation, else those of its join; then the sends that are due.
 #[cycle(write_delivered_write_joined)]
-fn write_delivered<'a>(tables: Tables<'a>, out: &mut [u8], at: usize, due: Due) -> usize
+fn write_delivered(tables: Tables<'_>, out: &mut [u8], at: usize, due: Due) -> usize
     requires { (q : Query) × (ToDeliver ◌+◌ q (lent_of tables) due.set due.site due.figure × (at + length (step_bytes (written_delivered ◌+◌ q due.set due.site)) ≤ length out.old)) }
     ensures { (q : Query) → ToDeliver ◌+◌ q (lent_of tables.entry) due.set due.site due.figure →
         Wrote out.old at (step_bytes (written_delivered ◌+◌ q due.set due.site)) result out.new }
 {
-    if usize::count_ones(due.set) == 1 {
-        let r = usize::trailing_zeros(due.set) as usize;
-        let home = usize::trailing_zeros(homes_at(tables.board, r)) as usize;
+    if due.set.count_ones() == 1 {
+        let r = due.set.trailing_zeros() as usize;
+        let home = homes_at(tables.board, r).trailing_zeros() as usize;
         let next = put(&mut *out, at, 1, r);
         return put_route(
             tables.board,
@@ -149,7 +149,7 @@ fn write_delivered<'a>(tables: Tables<'a>, out: &mut [u8], at: usize, due: Due) 
 
 // Writes the steps that join a set at k: the part with the join's first relation, the other part and the join.
 #[cycle(write_delivered_write_joined)]
-fn write_joined<'a>(tables: Tables<'a>, out: &mut [u8], at: usize, set: usize, k: usize) -> usize
+fn write_joined(tables: Tables<'_>, out: &mut [u8], at: usize, set: usize, k: usize) -> usize
     requires { (q : Query) × (ToJoin ◌+◌ q (lent_of tables) set k × (at + length (step_bytes (written_joined ◌+◌ q set k)) ≤ length out.old)) }
     ensures { (q : Query) → ToJoin ◌+◌ q (lent_of tables.entry) set k →
         Wrote out.old at (step_bytes (written_joined ◌+◌ q set k)) result out.new }

@@ -2,19 +2,10 @@
 use Prim.Native.Nat.{ℕ, ◌+◌}
 use native.Mathlib.Omega.{arith}
 use mathlib.Core.Path.{refl}
-use borrow.Author.Rules.{rules}
 use lib.ListN.{length-replicate}
 use Rattle.rules.proofs.Combinations.{plus_combines}
-use Rattle.board.proofs.Here.{drawn_here}
-use Rattle.solver.proofs.Answers.{cheapest_number, cheapest_none, fillable_here, filled_here, tried_few, trials_few, answer_found, answer_none}
+use Rattle.solver.proofs.Answers.{cheapest_number, cheapest_none, filled_here, tried_few, trials_few, answer_found, answer_none}
 use Rattle.solver.proofs.solve.Goals as goal
-
-pub join_table-table-requires : goal.join_table-table-requires
-join_table-table-requires c = search (rules, drawn_here)
-
-pub fill-tried-requires : goal.fill-tried-requires
-fill-tried-requires c =
-    (_, fillable_here c.args.q.now _ _ _ _ c.requires.0 c.laid_out-board.ensures c.join_table-table.ensures (length-replicate {A = ℕ} 512 0) (omega (arith, c.requires.1.0)))
 
 pub overflow_add-trials : goal.overflow_add-trials
 overflow_add-trials c =
@@ -25,17 +16,6 @@ pub overflow_mul-trials : goal.overflow_mul-trials
 overflow_mul-trials c =
     let f = filled_here c.args.q.now _ _ _ _ _ _ _ c.requires.0 c.laid_out-board.ensures c.join_table-table.ensures (length-replicate {A = ℕ} 512 0) c.requires.1.0 c.fill-tried.ensures in
     omega (arith, tried_few _ _ _ _ _ f.0 c.requires.0, trials_few _ _ _ _ _ f.0 c.requires.0)
-
-pub cheapest-figure-requires : goal.cheapest-figure-requires
-cheapest-figure-requires c =
-    let f = filled_here c.args.q.now _ _ _ _ _ _ _ c.requires.0 c.laid_out-board.ensures c.join_table-table.ensures (length-replicate {A = ℕ} 512 0) c.requires.1.0 c.fill-tried.ensures in
-    (_, ((f.1, f.0.cells), refl))
-
-pub write_plan-length-requires : goal.write_plan-length-requires
-write_plan-length-requires c =
-    let f = filled_here c.args.q.now _ _ _ _ _ _ _ c.requires.0 c.laid_out-board.ensures c.join_table-table.ensures (length-replicate {A = ℕ} 512 0) c.requires.1.0 c.fill-tried.ensures in
-    let number = cheapest_number ◌+◌ plus_combines _ c.requires.0 _ (c.cheapest-figure.ensures _ f.1 f.0.cells refl) c.if-figure-lt-NONE.true in
-    (_, ((f.1, f.0.cells), (refl, (number, c.requires.1.1))))
 
 pub returns-then-figure-lt-NONE : goal.returns-then-figure-lt-NONE
 returns-then-figure-lt-NONE c =

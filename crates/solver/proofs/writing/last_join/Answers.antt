@@ -2,14 +2,10 @@
 use borrow.Author.Rules.{rules}
 use mathlib.Core.Path.{◌∙◌}
 use Rattle.rules.proofs.Combinations.{plus_combines}
-use Rattle.board.specs.Figures.{ChoiceOf}
 use Rattle.board.proofs.LeastFigures.{choice_none}
-use Rattle.solver.proofs.Choices.{few_joins, parts_low, triable, join_better, join_worse, join_by_lem}
+use Rattle.solver.proofs.Choices.{parts_low, triable, join_better, join_worse}
 use Rattle.solver.proofs.writing.last_join.Goals as goal
 use Rattle.solver.proofs.writing.last_join.Goals.{then-bit-eq1, else-bit-eq1}
-
-pub joins_within-joins-requires : goal.joins_within-joins-requires
-joins_within-joins-requires c = search (rules, few_joins, plus_combines)
 
 pub loop-e-init : goal.loop-e-init
 loop-e-init c = search (rules, choice_none)
@@ -23,9 +19,6 @@ trial-requires c = search (rules, triable, plus_combines)
 pub loop-e-preserved : goal.loop-e-preserved
 loop-e-preserved c =
     elim c.if-bit-eq1.branch [
-      then-bit-eq1 w ↦ join_better _ _ _ _ _ _ c.bit.result _ c.loop-e.invariant (search rules) _ _ _ _ _ (search rules) w.side_at.ensures w.split-parts.ensures w.spared_row.ensures.0 w.trial.ensures.0 (w.best-is ∙ w.better-best.ensures)
-    | else-bit-eq1 w ↦ rw w.best-is (search (rules, join_worse))
+      | then-bit-eq1 w ↦ join_better _ _ _ _ _ _ c.bit.result _ c.loop-e.invariant (search rules) _ _ _ _ _ (search rules) w.side_at.ensures w.split-parts.ensures w.spared_row.ensures.0 w.trial.ensures.0 (w.best-is ∙ w.better-best.ensures)
+      | else-bit-eq1 w ↦ rw w.best-is (search (rules, join_worse))
     ]
-
-pub returns : goal.returns
-returns c = search (rules, join_by_lem)
