@@ -1,0 +1,9 @@
+-- A plan: the count, and the bytes behind it, of which the output has 272.
+use Rattle.std.proofs.Common.{rules, ◌≤◌, length, drop}
+use Rattle.std.proofs.lemmas.List.{take_all}
+use Rattle.plan.proofs.listing.ListingDisplay.fmt.Goals as goal
+
+pub returns-in-Found-clause-writes : goal.returns-in-Found-clause-writes
+returns-in-Found-clause-writes g c =
+    let short : length (drop 1 c.args.self.now.output) ≤ 272 = search rules in
+    λ plain ok. rw (c.in-Found.is, ← take_all 272 (drop 1 c.args.self.now.output) short) (c.write.ensures.writes plain ok)
