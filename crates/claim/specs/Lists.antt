@@ -13,8 +13,9 @@ use Rattle.decoder.specs.Decode.{decode}
 use Rattle.decoder.specs.declared.Form.TheVariants as form
 use Rattle.room.specs.declared.RoomAnswer.{RoomAnswer}
 use Rattle.planner.specs.declared.Planner.{Planner}
-use Rattle.planner.specs.declared.AfterLoad.{AfterLoad}
-use Rattle.planner.specs.declared.AfterLink.{AfterLink}
+use Rattle.planner.specs.declared.After.{After}
+use Rattle.planner.specs.declared.LoadAnswer.{LoadAnswer}
+use Rattle.planner.specs.declared.LinkAnswer.{LinkAnswer}
 use Rattle.planner.specs.declared.SolveAnswer.{SolveAnswer}
 use Rattle.planner.specs.declared.CheckAnswer.{CheckAnswer}
 use Rattle.planner.specs.Link.{Link, link_of, sites_listed, terms_in_range, relined_by}
@@ -65,13 +66,13 @@ in_force (c ∷ calls) = force c (in_force calls)
 pub data Runs : List Call → Planner → Type 0 where
   at_first : {p : Planner} → Empty.Post tt tt p tt → Runs [] p
   loads :
-      {calls : List Call} {p : Planner} (κs : Lfts 1) (file last : Bor (List ℕ)) (r : AfterLoad) →
+      {calls : List Call} {p : Planner} (κs : Lfts 1) (file last : Bor (List ℕ)) (r : After LoadAnswer) →
       Runs calls p → Load.Post κs (p, (file, tt)) r (p, (last, tt)) → Runs (load file.now ∷ calls) r.planner
   loads_rows :
-      {calls : List Call} {p : Planner} (κs : Lfts 1) (file last : Bor (List ℕ)) (r : AfterLoad) →
+      {calls : List Call} {p : Planner} (κs : Lfts 1) (file last : Bor (List ℕ)) (r : After LoadAnswer) →
       Runs calls p → LoadRows.Post κs (p, (file, tt)) r (p, (last, tt)) → Runs (load_rows file.now ∷ calls) r.planner
   links :
-      {calls : List Call} {p : Planner} (a b f x r : ℕ) (d : AfterLink) →
+      {calls : List Call} {p : Planner} (a b f x r : ℕ) (d : After LinkAnswer) →
       Runs calls p → LinkReads.Post tt (p, (a, (b, (f, (x, (r, tt)))))) d (p, (a, (b, (f, (x, (r, tt)))))) → Runs (link a b f x r ∷ calls) d.planner
   solves :
       {calls : List Call} {p : Planner} (κs : Lfts 2) (cells cells' output output' : MutBor (List ℕ)) (r : SolveAnswer) →

@@ -1,25 +1,21 @@
 -- Every decoded query is valid, and a file that gives none is refused with 1 to 5: the sections' ranges, in reading order, make up what a query keeps to.
 use Prim.Native.Nat.{ℕ}
 use native.Mathlib.Omega.{arith}
-use mathlib.Core.Path.{◌≡◌}
+use mathlib.Core.Path.{◌≡◌, sym}
 use mathlib.Core.List.{List}
 use lib.ListN.{length}
 use lib.Dec.{eqb}
 use Rattle.relations.specs.Trees.{reaches}
-use Rattle.relations.proofs.Leads.{clash}
 use Rattle.query.specs.declared.Query.{Query}
 use Rattle.query.specs.Query.{Valid, home}
 use Rattle.query.proofs.Choice.{pick_all}
-use Rattle.sections.specs.declared.sections.Outcome.TheVariants.{Whole}
 use Rattle.sections.specs.Fields.{Read, refused, value}
 use Rattle.sections.specs.Sections.{sites_section, relations_section, joins_section, lines_section, delivery_section}
 use Rattle.sections.proofs.Gives.{Has, gives_then}
 use Rattle.sections.proofs.Ranges.{sites_in, relations_in, joins_in_lem, lines_in, delivery_in}
 use Rattle.decoder.specs.declared.Form.{Form}
-use Rattle.decoder.specs.declared.decoding.Decoded.{Decoded}
 use Rattle.decoder.specs.Sizes.{sizes_by}
 use Rattle.decoder.specs.Decode.{decode}
-use Rattle.decoder.specs.Code.{decoded_of}
 use Rattle.decoder.specs.Theorems.{DecodeValid}
 use Rattle.decoder.proofs.RowRanges.{sizes_by_in}
 
@@ -60,9 +56,5 @@ pub decode_valid : DecodeValid
 decode_valid f file q l e = rw e at (file_in f file)
 
 -- The same of the code's answer.
-whole_valid : (x : Read Query) → Has Valid x → (decoded_of x).outcome ≡ Whole → Valid (decoded_of x).query
-whole_valid (refused k) h e = absurd (clash (cc))
-whole_valid (value q l) h e = h
-
-pub decoded_valid : (f : Form) (file : List ℕ) (d : Decoded) → d ≡ decoded_of (decode f file) → d.outcome ≡ Whole → Valid d.query
-decoded_valid f file d e whole = rw e (whole_valid (decode f file) (file_in f file) (rw e at whole))
+pub decoded_valid : (f : Form) (file : List ℕ) (q : Query) (l : List ℕ) → value q l ≡ decode f file → Valid q
+decoded_valid f file q l e = decode_valid f file q l (sym e)

@@ -3,53 +3,34 @@ ghost use Rattle.std.specs.Prelude.{◌+◌, ◌≡◌, replicate};
 ghost use Rattle.relations.specs.Code.{most_sets};
 ghost use Rattle.relations.specs.Trees.{subqueries};
 ghost use Rattle.subqueries.specs.Table.{Tabled};
-ghost use Rattle.sections.specs.Code.{read_of};
+ghost use Rattle.sections.specs.Code.{read_into};
 ghost use Rattle.decoder.specs.Sizes.{sizes_section};
 
+use query::Refusal;
 use relations::{Joins, SETS, single};
-use sections::{Ended, Field, Outcome, amount_up_to, fault, part_from, read_field};
+use sections::Part;
 use sizing::MOST_SIZE;
 use subqueries::is_connected;
 
 // The sizes of the subqueries of a tree, which are due in number, by its table, into a list of zeros.
+#[tactic(auto, using(crate::proofs::SizeLaws::sizes), unfolding(crate::specs::Sizes::sizes_section))]
 pub(crate) fn read_sizes(
-    part: &[u8],
+    part: &mut Part,
     joins: Joins,
     table: &[u32; SETS],
     due: usize,
     sizes: &mut [u32; SETS],
-) -> Ended
+) -> Result<(), Refusal>
     requires tabled { Tabled joins table.now }
     requires due_is { due ≡ subqueries joins (joins.count + 1) }
     requires sizes_are_zero { sizes.old ≡ replicate most_sets 0 }
-    ensures { read_of result.outcome sizes.new result.used part.now ≡ sizes_section joins (joins.count + 1) part.now }
+    ensures { read_into result sizes.new part.new ≡ sizes_section joins (joins.count + 1) part.old }
 {
-    let c = read_field(part, 2, 2, due as u64, due as u64);
-    let Field::Value(_) = c else {
-        return Ended {
-            outcome: Outcome::Refused(fault(c)),
-            used: 0,
-        };
-    };
-    let mut at = 2;
-    let mut set = 0;
-    while set < single(joins.count + 1) {
-        let next = set + 1;
+    part.field(2, Refusal::WrongCount, due as u64, due as u64)?;
+    for set in 0..single(joins.count + 1) {
         if is_connected(table[set]) {
-            let v = amount_up_to(part_from(part, at), MOST_SIZE);
-            let Field::Value(size) = v else {
-                return Ended {
-                    outcome: Outcome::Refused(fault(v)),
-                    used: 0,
-                };
-            };
-            sizes[set] = size as u32;
-            at += 4;
+            sizes[set] = part.amount_up_to(MOST_SIZE)?;
         }
-        set = next;
     }
-    Ended {
-        outcome: Outcome::Whole,
-        used: at,
-    }
+    Ok(())
 }

@@ -3,7 +3,7 @@
 
 ghost use Rattle.std.specs.Prelude.{◌≤◌, ◌≡◌, length};
 ghost use Rattle.planner.specs.Solve.{needed};
-ghost use Rattle.planner.specs.Code.{state_of, Sound};
+ghost use Rattle.planner.specs.Code.{state_of};
 ghost use Rattle.fanchuki.specs.Served.{served, refusal, on_standing, serve};
 
 use planner::{CELLS, LoadAnswer, Planner, SolveAnswer};
@@ -23,7 +23,7 @@ fn refusal(k: u64) -> u64
 
 // Solves the standing query over cells enough.
 fn solved(p: Planner, cells: &mut [u64], output: &mut [u8]) -> u64
-    requires { Sound p × (needed (state_of p) ≤ length cells.old) }
+    requires { needed (state_of p) ≤ length cells.old }
     ensures { served result output.new ≡ on_standing (state_of p) output.old }
 {
     let a = planner::solve(p, cells, output);

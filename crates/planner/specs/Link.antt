@@ -4,7 +4,8 @@ use Rattle.std.proofs.Math.Option.{none, some}
 use Rattle.query.specs.declared.Query.{Query}
 use Rattle.query.specs.Choice.{pick}
 use Rattle.query.specs.Query.{sites_of}
-use Rattle.query.specs.Terms.{Terms, relined}
+use Rattle.query.specs.declared.Terms.{Terms}
+use Rattle.query.specs.Terms.{relined}
 use Rattle.planner.specs.State.{State}
 use Rattle.planner.specs.Done.{Done, done_with}
 

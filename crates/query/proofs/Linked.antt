@@ -2,7 +2,8 @@
 use Prim.Native.Nat.{ℕ, ◌+◌, ◌*◌, ◌≤◌}
 use Rattle.query.specs.declared.Lines.{Lines}
 use Rattle.query.specs.declared.Query.{Query}
-use Rattle.query.specs.Terms.{Terms, with_line, relined}
+use Rattle.query.specs.declared.Terms.{Terms}
+use Rattle.query.specs.Terms.{with_line, relined}
 use Rattle.query.specs.Query.{UpTo, Valid, home}
 use Rattle.query.proofs.Limits.{set_up_to}
 

@@ -1,13 +1,8 @@
--- The terms of a site or a line, and one line replaced by others.
+-- One line replaced by other terms.
 use Rattle.std.specs.Prelude.{ℕ, ◌+◌, ◌*◌, set}
 use Rattle.query.specs.declared.Lines.{Lines}
 use Rattle.query.specs.declared.Query.{Query}
-
--- The flag, fixed amount and rate of a site or a line.
-pub record Terms : Type 0 where
-  pub flag : ℕ
-  pub fixed : ℕ
-  pub rate : ℕ
+use Rattle.query.specs.declared.Terms.{Terms}
 
 -- The lines with the line from sender a to receiver b replaced.
 abbrev pub with_line : ℕ → ℕ → Lines → Terms → Lines

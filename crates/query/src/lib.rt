@@ -21,7 +21,7 @@ pub struct Bytes(pub u64);
 pub struct Parcels(pub u64);
 
 // A count of charge units: a price or a cost.
-#[derive(Clone, Copy)]
+#[derive(Clone, Copy, Default)]
 pub struct Charge(pub u64);
 
 // The sites: whether each may join (1) or not (0), and its join's fixed amount and rate.
@@ -47,6 +47,14 @@ pub struct Lines {
     pub flag: [u8; 64],
     pub fixed: [u32; 64],
     pub rate: [u32; 64],
+}
+
+// The terms of a site or a line: its flag, fixed amount and rate.
+#[derive(Clone, Copy)]
+pub struct Terms {
+    pub flag: u8,
+    pub fixed: u32,
+    pub rate: u32,
 }
 
 // A query. The size of subquery S stands at S; where S is no subquery the size is 0.

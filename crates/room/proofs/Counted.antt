@@ -7,51 +7,59 @@ use mathlib.Core.Bool.{Bool, true, false}
 use mathlib.Core.List.{List}
 use lib.Count.{ones, ones-le}
 use lib.ListN.{get_or}
-use lib.Pow.{pow_mono}
-use Rattle.relations.specs.Code.{most_sets}
+use lib.Pow.{pow_mono, pow_pos}
+use mir.Syntax.{w64}
+use mir.Val.{Fits}
 use Rattle.relations.specs.declared.Joins.{Joins}
-use Rattle.relations.specs.Trees.{Tree, is_subquery, subqueries}
+use Rattle.relations.specs.Trees.{Tree, subqueries}
 use Rattle.relations.proofs.Counts.{ones_pos}
 use Rattle.relations.proofs.Loops.{few_sets}
 use Rattle.relations.proofs.SubqueriesMost.{subqueries_most}
 use Rattle.subqueries.specs.Table.{Tabled, is_connected}
 use Rattle.subqueries.proofs.Entries.{tested}
+use Rattle.sizing.proofs.Products.{product_word}
 use Rattle.tables.specs.Tables.{joins_below}
-use Rattle.tables.proofs.Trials.{joins_next, joins_below_lem}
+use Rattle.tables.proofs.Trials.{joins_none, joins_next, joins_below_lem}
 use Rattle.room.specs.Room.{figures, figures_of}
 
--- A turn at set S, where the joins in the subqueries below S are counted.
-module _ (J : Joins) (l : List ℕ) (S tried e : ℕ) (t : Tabled J l) (so : tried ≡ joins_below J (J.count + 1) S) (below : S < e) (end : e ≡ 2 ^ (J.count + 1)) where
-  pub counted : 0 < S → (1 ≤ ones S) × (ones S ≤ 9) × (tried ≤ 8 * most_sets)
-  counted some =
-      let low : S < 2 ^ 9 = omega (arith, few_sets J.count t.few) in
-      (ones_pos S some, ones-le 9 S low, omega (arith, joins_below_lem J (J.count + 1) S (omega arith)))
+-- A set that is not empty has a relation.
+pub some_ones : (S o : ℕ) → o ≡ ones S → 1 ≤ S → 1 ≤ o
+some_ones S o is some = omega (arith, ones_pos S some)
 
-  module _ (d : Bool) (test : d ≡ is_connected (get_or l S 0)) where
-    is_subquery_lem : d ≡ is_subquery J (J.count + 1) S
-    is_subquery_lem = tested J l S e d t test below end
+-- A set that the loop comes to, or its end; the joins in the subqueries below it are counted.
+module _ (J : Joins) (l : List ℕ) (t : Tabled J l) (S e tried : ℕ) (end : e ≡ 2 ^ (J.count + 1)) (so : tried ≡ joins_below J (J.count + 1) S) where
+  few : S ≤ e → (S ≤ 512) × (tried ≤ 4096)
+  few low =
+      let sets = few_sets J.count t.few in
+      (omega arith, omega (arith, joins_below_lem J (J.count + 1) S (omega arith)))
 
-    pub turn_in : d ≡ true → tried + (ones S - 1) ≡ joins_below J (J.count + 1) (S + 1)
-    turn_in h = omega (arith, joins_next J (J.count + 1) S true (sym is_subquery_lem ∙ h))
+  -- A turn.
+  module _ (below : S < e) (o : ℕ) (is : o ≡ ones S) where
+    pub tried_fits : Fits w64 (tried + (o - 1))
+    tried_fits = let sets = few_sets J.count t.few in record { fits = omega (arith, few (omega arith), ones-le 9 S (omega arith)) }
 
-    pub turn_out : d ≡ false → tried ≡ joins_below J (J.count + 1) (S + 1)
-    turn_out h = omega (arith, joins_next J (J.count + 1) S false (sym is_subquery_lem ∙ h))
+    module _ (d : Bool) (test : d ≡ is_connected (get_or l S 0)) where
+      pub turn_in : d ≡ true → tried + (o - 1) ≡ joins_below J (J.count + 1) (S + 1)
+      turn_in h = omega (arith, joins_next J (J.count + 1) S true (sym (tested J l S e d t test below end) ∙ h))
 
--- After the last set.
-pub all_counted : (J : Joins) (l : List ℕ) (S tried e : ℕ) → Tabled J l → tried ≡ joins_below J (J.count + 1) S → S ≤ e → e ≤ S → e ≡ 2 ^ (J.count + 1) →
-    (tried ≡ joins_below J (J.count + 1) (2 ^ (J.count + 1))) × (tried ≤ 4096)
-all_counted J l S tried e t so h k end =
-    let sets = few_sets J.count t.few in
-    let last : S ≡ 2 ^ (J.count + 1) = omega arith in
-    (so ∙ ap (joins_below J (J.count + 1)) last, omega (arith, joins_below_lem J (J.count + 1) S (omega arith)))
+  pub turn_out : S < e → (d : Bool) → d ≡ is_connected (get_or l S 0) → d ≡ false → tried ≡ joins_below J (J.count + 1) (S + 1)
+  turn_out below d test h = omega (arith, joins_next J (J.count + 1) S false (sym (tested J l S e d t test below end) ∙ h))
 
--- The subqueries are few too.
+  -- After the last set.
+  pub all_counted : S ≤ e → e ≤ S → tried ≡ joins_below J (J.count + 1) (2 ^ (J.count + 1))
+  all_counted h k = let last : S ≡ 2 ^ (J.count + 1) = omega arith in so ∙ ap (joins_below J (J.count + 1)) last
+
+  pub few_counted : S ≤ e → tried ≤ 4096
+  few_counted low = (few low).1
+
+pub ruleset counts = (joins_none, few_sets, pow_pos, some_ones, tried_fits, turn_in, turn_out, all_counted, few_counted)
+
+-- The subqueries are few too, so their cells are.
 pub power_few : (m : ℕ) → m ≤ 8 → 2 ^ m ≤ 256
 power_few m h = pow_mono {j = 8} h
 
 pub subqueries_few : (J : Joins) (k : ℕ) → (J.count ≤ 8) × Tree J (J.count + 1) → k ≡ subqueries J (J.count + 1) → k ≤ 4096
 subqueries_few J k h e = omega (arith, power_few J.count h.0, subqueries_most J (J.count + 1) h.1)
 
--- So these are the figures of the tree at s sites.
-pub told : (J : Joins) (s k j : ℕ) → k ≡ subqueries J (J.count + 1) → j ≡ joins_below J (J.count + 1) (2 ^ (J.count + 1)) → figures k (k * s) (s * j) ≡ figures_of (J.count + 1) s J
-told J s k j e f = rw (e, f)
+pub cells_fit : (k s : ℕ) → k ≤ 4096 → s ≤ 8 → Fits w64 (k * s)
+cells_fit k s h less = product_word k s (omega arith) (omega arith)

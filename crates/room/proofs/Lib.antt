@@ -1,4 +1,3 @@
 pub mod Counted
-pub mod Told
 pub mod Vectors
 pub mod Heaviest

@@ -6,13 +6,10 @@ mod telling;
 
 pub use telling::room;
 
-// What room answers: the number of subqueries, the cells, one for each subquery and site, and the trials; or the refusal's number.
+// What room tells: the number of subqueries, the cells, one for each subquery and site, and the trials.
 #[derive(Clone, Copy)]
-pub enum RoomAnswer {
-    Figures {
-        subqueries: u64,
-        cells: u64,
-        trials: u64,
-    },
-    Refused(u64),
+pub struct Figures {
+    pub subqueries: u64,
+    pub cells: u64,
+    pub trials: u64,
 }

@@ -12,9 +12,8 @@ use Rattle.relations.proofs.Leads.{clash}
 use Rattle.query.specs.declared.Query.{Query}
 use Rattle.query.specs.Choice.{pick}
 use Rattle.query.specs.Query.{relations_of}
-use Rattle.rules.specs.declared.Step.{Step}
 use Rattle.rules.specs.declared.Held.{Held}
-use Rattle.rules.specs.Machine.{Machine, start, Outcome, went, refused, step}
+use Rattle.rules.specs.Machine.{Step, Machine, start, Outcome, went, refused, step}
 use Rattle.rules.specs.Allowed.{most_steps, steps_of, Verdict, accepted, rejected, after, finish, run, checked, step_price, spent_after, spent}
 use Rattle.rules.specs.Code.{figures}
 use Rattle.rules.specs.Theorems.{CostIsSum}

@@ -27,7 +27,7 @@ more_below n S r h l fresh = sum_below S (2 ^ r) n (single_apart S r fresh) h (p
 pub start_room : (n : ℕ) → Room n 0 start
 start_room n =
     let none = ones-le 0 0 (pow_pos 0) in
-    record { in_all = pow_pos n; parts = omega arith; joins = 0; sends = 0; held = omega arith; steps = omega arith; small = omega arith }
+    record { in_all = pow_pos n; parts = omega arith; joins = 0; sends = 0; held = omega arith; steps = omega arith; small = omega arith; sited = tt }
 
 -- Room for some relations and steps is room for more.
 pub wider : (n n' i i' : ℕ) (m : Machine) → Room n i m → n ≤ n' → i ≤ i' → Room n' i' m
@@ -40,6 +40,7 @@ wider n n' i i' m room l k =
       held = room.held;
       steps = omega arith;
       small = room.small;
+      sited = room.sited;
     }
 
 module _ (combine : ℕ → ℕ → ℕ) (laws : Combines combine) (q : Query) (v : Valid q) where
@@ -57,6 +58,7 @@ module _ (combine : ℕ → ℕ → ℕ) (laws : Combines combine) (q : Query) (
             held = omega (arith, ones_more m.loaded r may.fresh);
             steps = omega (arith, ones_more m.loaded r may.fresh);
             small = omega arith;
+            sited = (omega (arith, v.homes r may.known, v.sites_most), room.sited);
           }
 
       sent : (L t : ℕ) (h : Held) (hs : List Held) → MaySend q t h → Room (relations_of q) i (record { loaded = L; stack = h ∷ hs }) →
@@ -70,6 +72,7 @@ module _ (combine : ℕ → ℕ → ℕ) (laws : Combines combine) (q : Query) (
             held = room.held;
             steps = omega arith;
             small = omega (arith, line_most q v h.set h.site t);
+            sited = (omega (arith, may.listed, v.sites_most), room.sited.1);
           }
 
       made : (L e : ℕ) (a b : Held) (hs : List Held) → MayJoin q e a b → Room (relations_of q) i (record { loaded = L; stack = b ∷ (a ∷ hs) }) →
@@ -83,6 +86,7 @@ module _ (combine : ℕ → ℕ → ℕ) (laws : Combines combine) (q : Query) (
             held = omega arith;
             steps = omega arith;
             small = omega (arith, laws.most a.figure.0 b.figure.0, join_most q v b.site (qualifies q a) a.set (qualifies q b) b.set);
+            sited = (room.sited.0, room.sited.1.1);
           }
 
   pub step_room : Invariant combine q (Room (relations_of q))

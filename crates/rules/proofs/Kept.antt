@@ -10,9 +10,8 @@ use Rattle.relations.specs.Sets.{bit, Apart}
 use Rattle.relations.proofs.Bits.{bit_add, single_apart}
 use Rattle.query.specs.declared.Query.{Query}
 use Rattle.query.specs.Query.{relations_of}
-use Rattle.rules.specs.declared.Step.{Step}
 use Rattle.rules.specs.declared.Held.{Held}
-use Rattle.rules.specs.Machine.{bare_of, Machine, sent_to, join_of}
+use Rattle.rules.specs.Machine.{Step, bare_of, Machine, sent_to, join_of}
 use Rattle.rules.specs.Allowed.{RunAt}
 use Rattle.rules.proofs.Steps.{MayLoad, MaySend, MayJoin, Cases, step_case}
 use Rattle.rules.proofs.Invariants.{Holds, Ends, steps_end}

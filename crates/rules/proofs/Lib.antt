@@ -5,9 +5,7 @@ pub mod CostIsSum
 pub mod Invariants
 pub mod Kept
 pub mod Runs
-pub mod Stacks
 pub mod Counting
+pub mod Stacks
 pub mod Rooms
-pub mod Pricing
-pub mod Outcomes
 pub mod Checking

@@ -9,9 +9,8 @@ use Rattle.relations.specs.Sets.{bit}
 use Rattle.relations.proofs.Leads.{clash}
 use Rattle.query.specs.declared.Query.{Query}
 use Rattle.query.specs.Query.{relations_of, sites_of}
-use Rattle.rules.specs.declared.Step.{Step}
 use Rattle.rules.specs.declared.Held.{Held}
-use Rattle.rules.specs.Machine.{bare_of, Machine, Outcome, went, refused, load, sent_to, send_top, send, join_of, join_top, join, step}
+use Rattle.rules.specs.Machine.{Step, bare_of, Machine, Outcome, went, refused, load, sent_to, send_top, send, join_of, join_top, join, step}
 use Rattle.rules.specs.Allowed.{after, finish, run}
 use Rattle.rules.proofs.Steps.{MayLoad, MaySend, MayJoin}
 

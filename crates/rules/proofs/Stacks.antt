@@ -1,40 +1,43 @@
--- The stack as an array and a depth: a store at or above the depth is not seen, so a push puts one result on top and a pop takes it off.
-use Prim.Native.Nat.{ℕ, zero, suc, ◌+◌, ◌-◌, ◌≤◌, ◌<◌}
-use mathlib.Core.Path.{◌≡◌, refl, sym, ap, ◌∙◌}
-use mathlib.Core.List.{List, [], ◌∷◌, map}
-use native.Mathlib.Numerals.{add-one}
-use native.Mathlib.Omega.{arith}
-use lib.ListN.{length, get_or, set, length-map}
-use lib.Seq.{get_or-set_same, get_or-set_other}
+-- The held results as the code has them, the top last, and as the stack of the rules, the top first.
+use Rattle.std.proofs.Common.{◌≡◌, suc, ◌-◌, ◌≤◌, ◌<◌, List, [], ◌∷◌, ◌++◌, length, get_or, take, reverse, refl, sym, ap, ◌∙◌, arith}
+use Rattle.std.proofs.Math.Seq.{take-suc}
+use Rattle.std.proofs.lemmas.List.{reverse-append, take_all, get_or-take, length-take-le}
 use Rattle.rules.specs.declared.Held.{Held}
-use Rattle.rules.specs.Code.{nothing, top_first}
+use Rattle.rules.specs.declared.Origin.TheVariants.{Bare}
+use Rattle.rules.specs.Machine.{charge}
 
-pub mapped_length : (X Y : Type 0) (f : X → Y) (l : List X) (n : ℕ) → length (map f l) ≡ n → length l ≡ n
-mapped_length X Y f l n e = sym (length-map l f) ∙ e
+-- What is said to stand past the end of a list.
+abbrev pub nothing : Held
+nothing = record { set = 0; site = 0; origin = Bare; figure = charge 0 }
 
--- A stack holds as many results as it is deep.
-pub depth_is : (a : List Held) (d : ℕ) → length (top_first a d) ≡ d
-unfolding top_first
-depth_is a zero = refl
-depth_is a (suc d) = ap suc (depth_is a d)
+pub pushed : (xs ys : List Held) (h : Held) → ys ≡ xs ++ h ∷ [] → reverse ys ≡ h ∷ reverse xs
+pushed xs ys h e = ap reverse e ∙ reverse-append xs (h ∷ [])
 
-pub empty_is : (a : List Held) → top_first a 0 ≡ []
-unfolding top_first
-empty_is a = refl
+-- The last result, read from a list that is the same, and what is left without it.
+pub top_one : (xs s : List Held) → s ≡ xs → 1 ≤ length s → reverse xs ≡ get_or s (length s - 1) nothing ∷ reverse (take (length xs - 1) xs)
+top_one xs s e l =
+    let some : 1 ≤ length xs = omega (arith, ap length e) in
+    let whole : take (suc (length xs - 1)) xs ≡ xs = take_all (suc (length xs - 1)) xs (omega arith) in
+    rw e (pushed (take (length xs - 1) xs) xs _ (sym whole ∙ take-suc xs (length xs - 1) nothing (omega arith)))
 
-unseen : (a : List Held) (i d : ℕ) (h : Held) → d ≤ i → top_first (set a i h) d ≡ top_first a d
-unfolding top_first
-unseen a i zero h l = refl
-unseen a i (suc d) h l = rw (get_or-set_other a i d h nothing (λ e. omega arith), unseen a i d h (omega arith))
+-- The last two.
+pub top_two : (xs s ys : List Held) → s ≡ xs → 2 ≤ length s → ys ≡ take (length xs - 1) xs →
+    reverse xs ≡ get_or s (length s - 1) nothing ∷ (get_or s (length s - 2) nothing ∷ reverse (take (length ys - 1) ys))
+top_two xs s ys e l f =
+    let long : length s ≡ length xs = ap length e in
+    let many : length ys ≡ length xs - 1 = rw f (length-take-le (length xs - 1) xs (omega arith)) in
+    let same : length ys - 1 ≡ length s - 2 = omega arith in
+    let next : get_or ys (length ys - 1) nothing ≡ get_or s (length s - 2) nothing =
+      rw (same, f, e) (get_or-take (length xs - 1) xs (length xs - 2) nothing (omega arith)) in
+    rw (top_one xs s e (omega arith), ← f, top_one ys ys refl (omega arith), next)
 
-pub pushed : (a : List Held) (d : ℕ) (h : Held) → length a ≡ 9 → d < 9 → top_first (set a d h) (d + 1) ≡ h ∷ top_first a d
-unfolding top_first
-pushed a d h e l = rw (add-one, get_or-set_same a d h nothing (omega arith), unseen a d d h (omega arith))
+-- No result.
+pub top_none : (xs s : List Held) → s ≡ xs → length s < 1 → reverse xs ≡ []
+top_none xs [] e l = ap reverse (sym e)
+top_none xs (h ∷ s) e l = absurd (omega arith)
 
-pub popped : (a : List Held) (d : ℕ) → 0 < d → top_first a d ≡ get_or a (d - 1) nothing ∷ top_first a (d - 1)
-unfolding top_first
-popped a zero l = absurd (omega arith)
-popped a (suc d) l = let e : suc d - 1 ≡ d = omega arith in rw e
-
-pub popped_two : (s u hs : List Held) (b a : Held) → s ≡ b ∷ u → u ≡ a ∷ hs → s ≡ b ∷ (a ∷ hs)
-popped_two s u hs b a e f = rw (e, f)
+-- A single one.
+pub top_alone : (xs s : List Held) → s ≡ xs → 1 ≤ length s → length s < 2 → reverse xs ≡ get_or s 0 nothing ∷ []
+top_alone xs [] e l m = absurd (omega arith)
+top_alone xs (h ∷ []) e l m = ap reverse (sym e)
+top_alone xs (h ∷ (a ∷ s)) e l m = absurd (omega arith)

@@ -13,9 +13,8 @@ use Rattle.query.specs.declared.Query.{Query}
 use Rattle.query.specs.Choice.{pick}
 use Rattle.query.specs.Query.{relations_of, sites_of, may_join, is_open}
 use Rattle.query.specs.Prices.{line_price, join_price}
-use Rattle.rules.specs.declared.Step.{Step}
 use Rattle.rules.specs.declared.Held.{Held}
-use Rattle.rules.specs.Machine.{Machine, Outcome, went, refused, guard, bare_of, load, sent_to, send_top, send, links, qualifies, join_of, join_top, join, step}
+use Rattle.rules.specs.Machine.{Step, Machine, Outcome, went, refused, guard, bare_of, load, sent_to, send_top, send, links, qualifies, join_of, join_top, join, step}
 use Rattle.rules.specs.Allowed.{send_price, join_step_price, step_price}
 
 -- What a load of r, a send of h to t and a join of a and b by e ask, so that they go.

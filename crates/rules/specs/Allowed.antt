@@ -5,9 +5,8 @@ use Rattle.query.specs.declared.Query.{Query}
 use Rattle.query.specs.Choice.{pick}
 use Rattle.query.specs.Query.{relations_of}
 use Rattle.query.specs.Prices.{line_price, join_price}
-use Rattle.rules.specs.declared.Step.{Step}
 use Rattle.rules.specs.declared.Held.{Held}
-use Rattle.rules.specs.Machine.{Machine, start, Outcome, went, refused, qualifies, step}
+use Rattle.rules.specs.Machine.{Step, Machine, start, Outcome, went, refused, qualifies, step}
 
 -- How many steps a plan may have, and how many bytes it then has at most: its count, and two a step.
 abbrev pub most_steps : ℕ

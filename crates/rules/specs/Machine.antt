@@ -13,6 +13,11 @@ use Rattle.rules.specs.declared.Origin.{Origin}
 use Rattle.rules.specs.declared.Origin.TheVariants.{Bare, Sent, Joined}
 use Rattle.rules.specs.declared.Held.{Held}
 
+-- A step of a plan: its kind and its argument.
+pub record Step : Type 0 where
+  pub kind : ℕ
+  pub arg : ℕ
+
 -- The relations loaded so far, as a set, and the held results, the top first.
 pub record Machine : Type 0 where
   pub loaded : ℕ

@@ -2,9 +2,7 @@ pub mod Gives
 pub mod Ranges
 pub mod Parts
 pub mod Reading
-pub mod ItemLaws
 pub mod Loops
-pub mod SectionLaws
 pub mod Pairs
 pub mod LineLaws
 pub mod Kept

@@ -16,7 +16,8 @@ use Rattle.query.proofs.Limits.{set_up_to, zeros_up_to}
 use Rattle.query.proofs.Linked.{Fair, LinesIn, with_line_lem}
 use Rattle.query.proofs.Choice.{pick_all}
 use Rattle.sections.specs.Fields.{field}
-use Rattle.sections.specs.Sections.{terms, Two, two, with_site, sites_section, with_relation, relations_section}
+use Rattle.sections.specs.declared.items.Two.{Two}
+use Rattle.sections.specs.Sections.{terms, two, with_site, sites_section, with_relation, relations_section}
 use Rattle.sections.specs.Sections.{with_join, joins_section, line, sender, lines_section, delivery_section}
 use Rattle.sections.proofs.Gives.{Has, Holds, gives_so, gives_items, gives_storing, gives_section, field_held, field_then}
 

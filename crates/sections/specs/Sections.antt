@@ -6,7 +6,9 @@ use Rattle.query.specs.declared.Relations.{Relations}
 use Rattle.query.specs.declared.Lines.{Lines}
 use Rattle.query.specs.Choice.{pick}
 use Rattle.query.specs.Zeros.{no_sites, no_relations, no_joins, no_lines}
-use Rattle.query.specs.Terms.{Terms, with_line}
+use Rattle.query.specs.declared.Terms.{Terms}
+use Rattle.query.specs.Terms.{with_line}
+use Rattle.sections.specs.declared.items.Two.{Two}
 use Rattle.sections.specs.Fields.{Read, value, and_then, count_field, byte_below, amount_up_to, items, storing, section}
 
 -- Fixed amounts are up to 1,000,000, rates up to 1,000.
@@ -16,10 +18,6 @@ terms l =
     (λ flag l. and_then (amount_up_to 1_000_000 l) (λ fixed l. and_then (amount_up_to 1_000 l) (λ rate l. value (record { flag = flag; fixed = fixed; rate = rate }) l)))
 
 -- Two bytes, the first below a and the second below b.
-pub record Two : Type 0 where
-  pub one : ℕ
-  pub other : ℕ
-
 unfoldable pub two : ℕ → ℕ → List ℕ → Read Two
 two a b l = and_then (byte_below a l) (λ x l. and_then (byte_below b l) (λ y l. value (record { one = x; other = y }) l))
 

@@ -1,93 +1,105 @@
-// Fields, each read from the front of the part of the file that starts at the cursor.
-ghost use Rattle.std.specs.Prelude.{◌≤◌, ◌<◌, ◌≡◌, length, drop};
-ghost use Rattle.sections.specs.Fields.{number, field, count_field, byte_below, amount_up_to};
-ghost use Rattle.sections.specs.Code.{field_of, fault_of};
+// The part of a file that starts at the cursor, and the fields taken from its front.
+ghost use Rattle.std.specs.Prelude.{◌≤◌, ◌<◌, ◌≡◌, ◌^◌, length, eqb, IfOk};
+ghost use Rattle.query.specs.Refusals.{number_of};
+ghost use Rattle.sections.specs.Fields.{number, field, count_field, byte_below, amount_up_to, from_one_to};
+ghost use Rattle.sections.specs.Code.{read_of};
 
-// What a field holds, or the number of its refusal.
-#[derive(Clone, Copy)]
-pub enum Field {
-    Value(u64),
-    Refused(u64),
+use query::Refusal;
+use std::marker::Model;
+
+// A clause sees the bytes that are left.
+#[derive(Drop)]
+pub struct Part<'a> {
+    rest: &'a [u8],
 }
 
-// The number of a field's refusal.
-pub fn fault(f: Field) -> u64
-    ensures { result ≡ fault_of f }
+impl<'a> Model for Part<'a> {
+    ghost use Rattle.std.specs.Prelude.{ℕ, List};
+
+    ghost Value = { List ℕ };
+
+    ghost view = { λ p. p.rest.now };
+}
+
+// The number in some bytes, little-endian.
+fn number(bytes: &[u8]) -> u64
+    requires { length bytes.now ≤ 4 }
+    ensures value { result ≡ number (length bytes.now) bytes.now }
+    ensures small { result < 256 ^ length bytes.now }
 {
-    match f {
-        Field::Value(_) => 0,
-        Field::Refused(k) => k,
+    bytes.iter().rev().fold(0, |v, b| v << 8 | u64::from(*b))
+}
+
+impl<'a> Part<'a> {
+    // All of the file: the cursor is at its start.
+    pub fn new(file: &'a [u8]) -> Self
+        ensures { result ≡ file.now }
+    {
+        Part { rest: file }
     }
-}
 
-// The file from a place on, and nothing past its end.
-pub fn part_from(file: &[u8], at: usize) -> &[u8]
-    ensures { result.now ≡ drop at file.now }
-{
-    if at <= file.len() {
-        return &file[at..];
+    // No byte is left.
+    pub fn is_empty(&self) -> bool
+        ensures { result ≡ eqb (length self.now) 0 }
+    {
+        self.rest.is_empty()
     }
-    let end = file.len();
-    &file[end..]
-}
 
-fn wide(x: u8) -> u64
-    ensures { (result ≡ x) × (result < 256) }
-{
-    x as u64
-}
-
-// The number in the first bytes of a part, little-endian.
-fn number(part: &[u8], width: usize) -> u64
-    requires { (width ≤ 4) × (width ≤ length part.now) }
-    ensures { result ≡ number width part.now }
-{
-    let mut v = 0;
-    let mut i = width;
-    while 0 < i {
-        i -= 1;
-        v = 256 * v + wide(part[i]);
+    // A field of some bytes: whole before it is judged, then from low to high, or refused with the fault.
+    pub fn field(
+        &mut self,
+        width: usize,
+        fault: Refusal,
+        low: u64,
+        high: u64,
+    ) -> Result<u64, Refusal>
+        requires { width ≤ 4 }
+        ensures value { read_of result self.new ≡ field width (number_of fault) low high self.old }
+        ensures range { IfOk result (λ v. (low ≤ v) × (v ≤ high)) }
+        ensures small { IfOk result (λ v. v < 256 ^ width) }
+    {
+        let Some((bytes, rest)) = self.rest.split_at_checked(width) else {
+            return Err(Refusal::Cut);
+        };
+        self.rest = rest;
+        let v = number(bytes);
+        if !(low..=high).contains(&v) {
+            return Err(fault);
+        }
+        Ok(v)
     }
-    v
-}
 
-// A field of some bytes: whole before it is judged, then from low to high, or refused with the fault.
-pub fn read_field(part: &[u8], width: usize, fault: u64, low: u64, high: u64) -> Field
-    requires { width ≤ 4 }
-    ensures { result ≡ field_of (field width fault low high part.now) }
-{
-    if part.len() < width {
-        return Field::Refused(1);
+    // A count from low to high.
+    pub fn count(&mut self, low: usize, high: usize) -> Result<usize, Refusal>
+        ensures value { read_of result self.new ≡ count_field low high self.old }
+        ensures range { IfOk result (λ n. (low ≤ n) × (n ≤ high)) }
+    {
+        let n = self.field(1, Refusal::WrongCount, low as u64, high as u64)?;
+        Ok(n as usize)
     }
-    let v = number(part, width);
-    if v < low {
-        return Field::Refused(fault);
+
+    // A byte below a limit.
+    pub(crate) fn byte_below(&mut self, limit: usize) -> Result<u8, Refusal>
+        requires { 1 ≤ limit }
+        ensures { read_of result self.new ≡ byte_below limit self.old }
+    {
+        let v = self.field(1, Refusal::OutOfRange, 0, (limit - 1) as u64)?;
+        Ok(v as u8)
     }
-    if high < v {
-        return Field::Refused(fault);
+
+    // An amount up to a limit.
+    pub fn amount_up_to(&mut self, limit: u64) -> Result<u32, Refusal>
+        ensures { read_of result self.new ≡ amount_up_to limit self.old }
+    {
+        let v = self.field(4, Refusal::OutOfRange, 0, limit)?;
+        Ok(v as u32)
     }
-    Field::Value(v)
-}
 
-// A count from low to high.
-pub fn count_field(part: &[u8], low: u64, high: u64) -> Field
-    ensures { result ≡ field_of (count_field low high part.now) }
-{
-    read_field(part, 1, 2, low, high)
-}
-
-// A byte below a limit.
-pub(crate) fn byte_below(part: &[u8], limit: usize) -> Field
-    requires { 1 ≤ limit }
-    ensures { result ≡ field_of (byte_below limit part.now) }
-{
-    let high = (limit - 1) as u64;
-    read_field(part, 1, 3, 0, high)
-}
-
-// An amount up to a limit.
-pub fn amount_up_to(part: &[u8], limit: u64) -> Field
-    ensures { result ≡ field_of (amount_up_to limit part.now) }
-{
-    read_field(part, 4, 3, 0, limit)
+    // A number from 1 to a limit.
+    pub fn from_one_to(&mut self, limit: u64) -> Result<u32, Refusal>
+        ensures { read_of result self.new ≡ from_one_to limit self.old }
+    {
+        let v = self.field(4, Refusal::OutOfRange, 1, limit)?;
+        Ok(v as u32)
+    }
 }

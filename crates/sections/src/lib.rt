@@ -8,11 +8,8 @@ mod join_section;
 mod line_section;
 mod sections;
 
-pub use fields::{Field, amount_up_to, count_field, fault, part_from, read_field};
+pub use fields::Part;
 pub use items::{MOST_FIXED, MOST_RATE};
-pub use join_section::{JoinsRead, read_joins, read_pairs};
-pub use line_section::{LinesRead, read_lines};
-pub use sections::{
-    DeliveryRead, Ended, Outcome, RelationsRead, SitesRead, read_delivery, read_relations,
-    read_sites,
-};
+pub use join_section::{read_joins, read_pairs};
+pub use line_section::read_lines;
+pub use sections::{read_delivery, read_relations, read_sites};

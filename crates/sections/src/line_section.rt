@@ -1,94 +1,40 @@
 // The section Lines: by sender, then receiver, the sender itself left out.
 ghost use Rattle.std.specs.Prelude.{◌≤◌, ◌<◌, ◌≡◌};
 ghost use Rattle.sections.specs.Sections.{sender, lines_section};
-ghost use Rattle.sections.specs.Code.{read_of, lines_of};
+ghost use Rattle.sections.specs.Code.{read_of, read_into};
 
-use crate::fields::{Field, count_field, fault, part_from};
-use crate::items::{TermsRead, read_terms, terms_fault};
-use crate::sections::{Ended, Outcome};
-use query::{Lines, no_lines};
+use crate::fields::Part;
+use query::{Lines, Refusal, no_lines};
 
-#[derive(Clone, Copy)]
-pub struct LinesRead {
-    pub outcome: Outcome,
-    pub used: usize,
-    pub lines: Lines,
-}
-
-// The lines of sender a to each receiver of s sites but itself, into the lists of flags, fixed amounts and rates.
-fn read_sender(
-    part: &[u8],
-    s: usize,
-    a: usize,
-    flags: &mut [u8; 64],
-    amounts: &mut [u32; 64],
-    rates: &mut [u32; 64],
-) -> Ended
+// The lines of sender a to each receiver of s sites but itself.
+#[tactic(auto, using(crate::proofs::LineLaws::lines), unfolding(crate::specs::Sections::sender))]
+fn read_sender(part: &mut Part, s: usize, a: usize, lines: &mut Lines) -> Result<(), Refusal>
     requires { (s ≤ 8) × (a < 8) }
-    ensures { (read_of result.outcome (lines_of flags.new amounts.new rates.new) result.used part.now
-        ≡ sender s a (lines_of flags.old amounts.old rates.old) part.now) × (result.used ≤ 72) }
+    ensures { read_into result lines.new part.new ≡ sender s a lines.old part.old }
 {
-    let mut at = 0;
-    let mut b = 0;
-    while b < s {
-        let next = b + 1;
+    for b in 0..s {
         if a != b {
-            let t = read_terms(part_from(part, at));
-            let TermsRead::Terms { flag, fixed, rate } = t else {
-                return Ended {
-                    outcome: Outcome::Refused(terms_fault(t)),
-                    used: 0,
-                };
-            };
+            let t = part.terms()?;
             let i = 8 * a + b;
-            flags[i] = flag;
-            amounts[i] = fixed;
-            rates[i] = rate;
-            at += 9;
+            lines.flag[i] = t.flag;
+            lines.fixed[i] = t.fixed;
+            lines.rate[i] = t.rate;
         }
-        b = next;
     }
-    Ended {
-        outcome: Outcome::Whole,
-        used: at,
-    }
+    Ok(())
 }
 
 // Lines of s sites, by sender.
-pub fn read_lines(part: &[u8], s: usize) -> LinesRead
+#[tactic(auto, using(crate::proofs::Loops::loops, crate::proofs::LineLaws::pairs_fit), unfolding(crate::specs::Sections::lines_section))]
+pub fn read_lines(part: &mut Part, s: usize) -> Result<Lines, Refusal>
     requires { (1 ≤ s) × (s ≤ 8) }
-    ensures { read_of result.outcome result.lines result.used part.now ≡ lines_section s part.now }
+    ensures { read_of result part.new ≡ lines_section s part.old }
 {
-    let due = (s * (s - 1)) as u64;
-    let c = count_field(part, due, due);
-    let Field::Value(_) = c else {
-        return LinesRead {
-            outcome: Outcome::Refused(fault(c)),
-            used: 0,
-            lines: no_lines(),
-        };
-    };
-    let mut flag = [0u8; 64];
-    let mut fixed = [0u32; 64];
-    let mut rate = [0u32; 64];
-    let mut at = 1;
-    let mut a = 0;
-    while a < s {
-        let r = read_sender(part_from(part, at), s, a, &mut flag, &mut fixed, &mut rate);
-        let o = r.outcome;
-        let Outcome::Whole = o else {
-            return LinesRead {
-                outcome: o,
-                used: 0,
-                lines: no_lines(),
-            };
-        };
-        at += r.used;
-        a += 1;
+    let due = s * (s - 1);
+    part.count(due, due)?;
+    let mut lines = no_lines();
+    for a in 0..s {
+        read_sender(part, s, a, &mut lines)?;
     }
-    LinesRead {
-        outcome: Outcome::Whole,
-        used: at,
-        lines: Lines { flag, fixed, rate },
-    }
+    Ok(lines)
 }

@@ -1,148 +1,52 @@
 // The sections Sites, Relations and Delivery, each read from the part of the file that starts where the last one ended.
-ghost use Rattle.std.specs.Prelude.{◌≤◌, ◌≡◌};
+ghost use Rattle.std.specs.Prelude.{◌≤◌, ◌≡◌, IfOk};
 ghost use Rattle.sections.specs.Sections.{sites_section, relations_section, delivery_section};
 ghost use Rattle.sections.specs.Code.{read_of};
 
-use crate::fields::{Field, byte_below, count_field, fault, part_from};
-use crate::items::{TermsRead, TwoRead, read_terms, read_two, terms_fault, two_fault};
-use query::{Relations, Sites, no_relations, no_sites};
-
-// How a section's reading ended: with all of it, or with the number of the first refusal.
-#[derive(Clone, Copy)]
-pub enum Outcome {
-    Whole,
-    Refused(u64),
-}
-
-// How the reading into a list that is lent ended, and how many bytes it used.
-#[derive(Clone, Copy)]
-pub struct Ended {
-    pub outcome: Outcome,
-    pub used: usize,
-}
-
-// What each section's reading gives: how it ended, how many bytes it used, and what it read.
-#[derive(Clone, Copy)]
-pub struct SitesRead {
-    pub outcome: Outcome,
-    pub used: usize,
-    pub sites: Sites,
-}
-
-#[derive(Clone, Copy)]
-pub struct RelationsRead {
-    pub outcome: Outcome,
-    pub used: usize,
-    pub relations: Relations,
-}
-
-#[derive(Clone, Copy)]
-pub struct DeliveryRead {
-    pub outcome: Outcome,
-    pub used: usize,
-    pub target: usize,
-}
+use crate::fields::Part;
+use query::{Refusal, Relations, Sites, no_relations, no_sites};
 
 // Sites: may-join flag, join fixed amount, join rate.
-pub fn read_sites(part: &[u8]) -> SitesRead
-    ensures { read_of result.outcome result.sites result.used part.now ≡ sites_section part.now }
+#[tactic(auto, using(crate::proofs::Loops::loops), unfolding(crate::specs::Fields::section, crate::specs::Sections::sites_section))]
+pub fn read_sites(part: &mut Part) -> Result<Sites, Refusal>
+    ensures value { read_of result part.new ≡ sites_section part.old }
+    ensures counts { IfOk result (λ a. (1 ≤ a.count) × (a.count ≤ 8)) }
 {
-    let c = count_field(part, 1, 8);
-    let Field::Value(n) = c else {
-        return SitesRead {
-            outcome: Outcome::Refused(fault(c)),
-            used: 0,
-            sites: no_sites(0),
-        };
-    };
-    let count = n as usize;
+    let count = part.count(1, 8)?;
     let mut sites = no_sites(count);
-    let mut at = 1;
-    let mut i = 0;
-    while i < count {
-        let t = read_terms(part_from(part, at));
-        let TermsRead::Terms { flag, fixed, rate } = t else {
-            return SitesRead {
-                outcome: Outcome::Refused(terms_fault(t)),
-                used: 0,
-                sites,
-            };
-        };
-        sites.may[i] = flag;
-        sites.fixed[i] = fixed;
-        sites.rate[i] = rate;
-        at += 9;
-        i += 1;
+    for i in 0..count {
+        let t = part.terms()?;
+        sites.may[i] = t.flag;
+        sites.fixed[i] = t.fixed;
+        sites.rate[i] = t.rate;
     }
-    SitesRead {
-        outcome: Outcome::Whole,
-        used: at,
-        sites,
-    }
+    Ok(sites)
 }
 
 // Relations: home site, index flag.
-pub fn read_relations(part: &[u8], s: usize) -> RelationsRead
-    requires { (1 ≤ s) × (s ≤ 8) }
-    ensures { read_of result.outcome result.relations result.used part.now ≡ relations_section s part.now }
+#[tactic(auto, using(crate::proofs::Loops::loops), unfolding(crate::specs::Fields::section, crate::specs::Sections::relations_section))]
+pub fn read_relations(part: &mut Part, s: usize) -> Result<Relations, Refusal>
+    requires { 1 ≤ s }
+    ensures value { read_of result part.new ≡ relations_section s part.old }
+    ensures counts { IfOk result (λ a. (1 ≤ a.count) × (a.count ≤ 9)) }
 {
-    let c = count_field(part, 1, 9);
-    let Field::Value(n) = c else {
-        return RelationsRead {
-            outcome: Outcome::Refused(fault(c)),
-            used: 0,
-            relations: no_relations(0),
-        };
-    };
-    let count = n as usize;
+    let count = part.count(1, 9)?;
     let mut relations = no_relations(count);
-    let mut at = 1;
-    let mut i = 0;
-    while i < count {
-        let t = read_two(part_from(part, at), s, 2);
-        let TwoRead::Two { one, other } = t else {
-            return RelationsRead {
-                outcome: Outcome::Refused(two_fault(t)),
-                used: 0,
-                relations,
-            };
-        };
-        relations.home[i] = one;
-        relations.index[i] = other;
-        at += 2;
-        i += 1;
+    for i in 0..count {
+        let t = part.two(s, 2)?;
+        relations.home[i] = t.one;
+        relations.index[i] = t.other;
     }
-    RelationsRead {
-        outcome: Outcome::Whole,
-        used: at,
-        relations,
-    }
+    Ok(relations)
 }
 
 // Delivery: the query site.
-pub fn read_delivery(part: &[u8], s: usize) -> DeliveryRead
+#[tactic(auto, unfolding(crate::specs::Sections::delivery_section))]
+pub fn read_delivery(part: &mut Part, s: usize) -> Result<usize, Refusal>
     requires { 1 ≤ s }
-    ensures { read_of result.outcome result.target result.used part.now ≡ delivery_section s part.now }
+    ensures { read_of result part.new ≡ delivery_section s part.old }
 {
-    let c = count_field(part, 1, 1);
-    let Field::Value(_) = c else {
-        return DeliveryRead {
-            outcome: Outcome::Refused(fault(c)),
-            used: 0,
-            target: 0,
-        };
-    };
-    let t = byte_below(part_from(part, 1), s);
-    let Field::Value(target) = t else {
-        return DeliveryRead {
-            outcome: Outcome::Refused(fault(t)),
-            used: 0,
-            target: 0,
-        };
-    };
-    DeliveryRead {
-        outcome: Outcome::Whole,
-        used: 2,
-        target: target as usize,
-    }
+    part.count(1, 1)?;
+    let target = part.byte_below(s)?;
+    Ok(usize::from(target))
 }

@@ -9,7 +9,8 @@ use Rattle.query.specs.declared.Query.{Query}
 use Rattle.query.specs.Choice.{pick}
 use Rattle.query.specs.Cost.{Cost, none, some}
 use Rattle.query.specs.Query.{relations_of}
-use Rattle.query.specs.Terms.{Terms, with_line}
+use Rattle.query.specs.declared.Terms.{Terms}
+use Rattle.query.specs.Terms.{with_line}
 use Rattle.query.specs.Zeros.{no_lines}
 use Rattle.tables.specs.Tables.{cheapest, trials}
 use Rattle.tables.specs.Written.{best_site, written_steps}

@@ -1,5 +1,5 @@
 -- One more solve counts one plan more, or none: each solve answers the same, whatever the one before it wrote.
-use Prim.Native.Nat.{ℕ, ◌+◌, ◌≤◌}
+use Prim.Native.Nat.{ℕ, ◌+◌}
 use native.Mathlib.Omega.{arith}
 use mathlib.Core.Path.{◌≡◌, refl, ap, ◌∙◌}
 use mathlib.Core.List.{List}
@@ -11,7 +11,7 @@ use Rattle.planner.specs.declared.SolveAnswer.{SolveAnswer}
 use Rattle.planner.specs.State.{State}
 use Rattle.planner.specs.Load.{load}
 use Rattle.planner.specs.Solve.{Answer, found, no_route, refused, Solving, solving_of, solve, blank}
-use Rattle.planner.specs.Code.{state_of, done_of, of_load, of_solve, Sound}
+use Rattle.planner.specs.Code.{state_of, done_of, of_load, of_solve}
 use Rattle.planner.proofs.Cells.{ample_cells, needed_enough, solve_enough}
 use Rattle.planner.proofs.Again.{solve_again}
 use Rattle.timed.specs.Found.{found_by, answer_in, plans_found}
@@ -31,21 +31,17 @@ counted_none s = none_at_first (answer_in s)
 
 -- A turn, over cells enough and an output with room for the longest plan.
 module _
-    (p : Planner) (sound : Sound p) (a : SolveAnswer) (n : ℕ) (out new : List ℕ) (solving : solving_of (of_solve a) new ≡ solve n out (state_of p))
+    (p : Planner) (a : SolveAnswer) (n : ℕ) (out new : List ℕ) (solving : solving_of (of_solve a) new ≡ solve n out (state_of p))
     (many : n ≡ ample_cells) (room : length out ≡ length blank)
   where
     as_defined : of_solve a ≡ answer_in (state_of p)
     as_defined =
         ap (λ (x : Solving). x.answer) solving ∙ solve_again out blank room n (state_of p)
-        ∙ ap (λ (x : Solving). x.answer) (solve_enough n blank (state_of p) (needed_enough p sound n (omega arith)))
+        ∙ ap (λ (x : Solving). x.answer) (solve_enough n blank (state_of p) (needed_enough p n (omega arith)))
 
     pub counted_more :
         (count r i : ℕ) → count ≡ found_by (answer_in (state_of p)) i → r ≡ found_by (of_solve a) 1 → count + r ≡ found_by (answer_in (state_of p)) (i + 1)
     counted_more count r i counted one = rw (counted, one, as_defined) (one_more (answer_in (state_of p)) i)
-
--- All turns are done.
-pub counted_all : (a : Answer) (count i times : ℕ) → count ≡ found_by a i → i ≤ times → times ≤ i → count ≡ found_by a times
-counted_all a count i times h le ge = h ∙ ap (found_by a) (omega arith)
 
 -- The query stands that load made of an empty planner.
 pub loaded_plans :
@@ -54,4 +50,4 @@ pub loaded_plans :
 unfolding plans_found
 loaded_plans empty p a file times r e done h = rw (← e, ← done) h
 
-pub ruleset counting = (counted_none, counted_more, counted_all, loaded_plans)
+pub ruleset counting = (counted_none, counted_more, loaded_plans)

@@ -1,18 +1,13 @@
--- `decode` begins with the sites: the reading goes on from where they end, or ends with their refusal.
-use borrow.Author.Rules.{rules}
-use Rattle.sections.proofs.Kept.{kept}
-use Rattle.sections.proofs.Ranges.{SitesIn, sites_in}
+-- `decode` gives the query that its definition gives, which is valid.
+use mathlib.Core.Path.{◌≡◌}
+use mathlib.Core.List.{[]}
+use Rattle.std.proofs.Common.{rules}
+use Rattle.query.specs.declared.Query.{Query}
+use Rattle.sections.specs.Fields.{Read, value}
 use Rattle.decoder.specs.Decode.{decode}
-use Rattle.decoder.proofs.FileLaws.{goes_on, ends}
+use Rattle.decoder.proofs.Valid.{decoded_valid}
 use Rattle.decoder.proofs.decoding.decode.Goals as goal
 
-pub returns-in_default : goal.returns-in_default
+pub returns-clause-valid : goal.returns-clause-valid
 unfolding decode
-returns-in_default c = search (rules, ends)
-
-pub after_sites-requires : goal.after_sites-requires
-after_sites-requires c = (kept _ _ _ c.in-Whole.is SitesIn _ (sites_in _) _ c.read_sites-read.ensures).counts
-
-pub returns : goal.returns
-unfolding decode
-returns c = search (rules, goes_on)
+returns-clause-valid c = decoded_valid c.args.form c.args.file.now _ [] (search rules)

@@ -1,19 +1,13 @@
--- `plans::check` meets its contract: each return is a case of refusal 7, or the plan is run. Assumes nothing.
-use borrow.Author.Rules.{rules}
-use Rattle.rules.proofs.Checking.{plan_empty, count_low, count_high, length_other, plan_whole}
+-- `judging::check` meets its contract: each return is a case of refusal 7, or the plan is run. Assumes nothing.
+use Rattle.rules.proofs.Checking.{plan_empty, plan_refused, plan_run}
 use Rattle.rules.proofs.judging.check.Goals as goal
 
-pub returns-then-plan-eq0 : goal.returns-then-plan-eq0
-returns-then-plan-eq0 c = search (rules, plan_empty)
+pub returns-in-len1-up : goal.returns-in-len1-up
+returns-in-len1-up c =
+    plan_run _ _ _ _ _ c.in-len1-up.len_at_least c.is_whole.ensures c.if-is_whole.true c.as_chunks.ensures.front c.run.ensures
 
-pub returns-then-count-lt1 : goal.returns-then-count-lt1
-returns-then-count-lt1 c = search (rules, count_low)
+pub returns-in_default : goal.returns-in_default
+returns-in_default c = plan_empty _ _ c.in_default.len_below
 
-pub returns-then-count-gt-MOST_STEPS : goal.returns-then-count-gt-MOST_STEPS
-returns-then-count-gt-MOST_STEPS c = search (rules, count_high)
-
-pub returns-then-plan-count : goal.returns-then-plan-count
-returns-then-plan-count c = search (rules, length_other)
-
-pub returns : goal.returns
-returns c = search (rules, plan_whole)
+pub returns-in_default-2 : goal.returns-in_default-2
+returns-in_default-2 c = plan_refused _ _ _ c.in-len1-up.len_at_least c.is_whole.ensures c.if-is_whole.false

@@ -1,7 +1,9 @@
 -- `stepping::may_send` meets its contract: its two tests are those of the rule. Assumes nothing.
-use borrow.Author.Rules.{rules}
-use Rattle.rules.proofs.Outcomes.{opened_is}
+use Rattle.std.proofs.Common.{arith}
+use Rattle.std.proofs.lemmas.Grind.{common_steps}
+use Rattle.query.specs.Query.{is_open}
 use Rattle.rules.proofs.stepping.may_send.Goals as goal
 
-pub returns : goal.returns
-returns c = search (rules, opened_is)
+pub returns-then-top-t : goal.returns-then-top-t
+unfolding is_open
+returns-then-top-t c = grind (arith, common_steps)

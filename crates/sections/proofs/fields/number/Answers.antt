@@ -1,19 +1,14 @@
--- `number` reads from the highest byte down: after each byte it has the number of the bytes from there on.
-use borrow.Author.Rules.{rules}
-use Rattle.sections.proofs.Parts.{numbers}
+-- `number` folds the bytes from the last one on.
+use mathlib.Core.Path.{◌≡◌, ◌∙◌}
+use Rattle.std.specs.Prelude.{reverse}
+use Rattle.std.specs.List.{fold}
+use Rattle.std.proofs.Common.{rules}
+use Rattle.std.proofs.iter.runs.Made.{chains}
+use Rattle.sections.proofs.Parts.{with_byte, number_folded, number_below}
 use Rattle.sections.proofs.fields.number.Goals as goal
 
-pub loop-i-init : goal.loop-i-init
-loop-i-init c = search (rules, numbers)
-
-pub overflow_mul-v : goal.overflow_mul-v
-overflow_mul-v c = search (rules, numbers)
-
-pub overflow_add-v : goal.overflow_add-v
-overflow_add-v c = search (rules, numbers)
-
-pub loop-i-preserved : goal.loop-i-preserved
-loop-i-preserved c = search (rules, numbers)
-
 pub returns : goal.returns
-returns c = search (rules, numbers)
+returns c =
+    let folded : c.fold.result ≡ fold with_byte 0 (reverse c.args.bytes.now) = search (rules, chains) in
+    let value = folded ∙ number_folded c.args.bytes.now c.type_inv.bytes c.requires in
+    record { value = value; small = rw value (number_below c.args.bytes.now c.type_inv.bytes) }
