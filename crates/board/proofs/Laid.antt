@@ -3,15 +3,11 @@ use Prim.Native.Nat.{ℕ, ◌+◌, ◌*◌, ◌≤◌, ◌<◌}
 use native.Mathlib.Omega.{arith}
 use mathlib.Core.Path.{◌≡◌, refl, ◌∙◌}
 use mathlib.Core.List.{List}
-use mathlib.Core.Bool.{Bool, true, false}
-use borrow.Author.Count.{below_none, below_more}
-use borrow.Author.Tests.{eqb-true, eqb-false}
-use lib.Dec.{eqb}
-use lib.ListN.{length, get_or, set, length-set}
-use lib.Seq.{get_or-set_same, get_or-set_other}
-use Rattle.query.specs.Choice.{pick}
+use borrow.Author.Count.{below_more}
+use lib.ListN.{get_or, set, length-set}
+use lib.Seq.{get_or-set_other}
 use Rattle.board.specs.Figures.{Lanes}
-use Rattle.board.specs.Board.{entries, lane}
+use Rattle.board.specs.Board.{lane}
 use Rattle.board.specs.Laying.{Kept, Laid, Rows}
 
 -- What lies outside an area stays: where nothing is stored, where one entry of it is, and over two steps.
@@ -33,35 +29,6 @@ kept_then a b c l h m n lo hi x y p q s t =
       below = λ j g. y.below j (omega arith) ∙ x.below j (omega arith);
       above = λ j g. y.above j (omega arith) ∙ x.above j (omega arith);
     }
-
--- A row: no lane, one lane more, and all of them by what they are.
-pub laid_none : (b : List ℕ) (i : ℕ) (g : ℕ → ℕ) → Laid b b i g 0
-laid_none b i g = record { kept = kept_none b (8 * i) (8 * i + 8); each = below_none _ }
-
-pub laid_next : (old new : List ℕ) (i k v : ℕ) (g : ℕ → ℕ) → Laid old new i g k → k < 8 → length old ≡ entries → i < 40 → v ≡ g k →
-    Laid old (set new (8 * i + k) v) i g (k + 1)
-laid_next old new i k v g a h n l e =
-    record {
-      kept = kept_then old new (set new (8 * i + k) v) (8 * i) (8 * i + 8) (8 * i) (8 * i + 8) (8 * i) (8 * i + 8) a.kept
-          (kept_set new (8 * i + k) v (8 * i) (8 * i + 8) (omega arith) (omega arith)) (omega arith) (omega arith) (omega arith) (omega arith);
-      each = below_more (λ (j : ℕ). lane (set new (8 * i + k) v) i j ≡ g j) k
-          (λ j m. get_or-set_other new (8 * i + k) (8 * i + j) v 0 (λ q. omega arith) ∙ a.each j m)
-          (get_or-set_same new (8 * i + k) v 0 (omega (arith, a.kept.long)) ∙ e);
-    }
-
-pub laid_all : (old new : List ℕ) (i k : ℕ) (g : ℕ → ℕ) → Laid old new i g k → 8 ≤ k → Laid old new i g 8
-laid_all old new i k g a h = record { kept = a.kept; each = λ j l. a.each j (omega arith) }
-
-pub laid_as : (old new row : List ℕ) (i : ℕ) (g : ℕ → ℕ) → Laid old new i (λ k. get_or row k 0) 8 → Lanes row g → Laid old new i g 8
-laid_as old new row i g a l = record { kept = a.kept; each = λ k h. a.each k h ∙ l.each k h }
-
--- A row whose lane k is then another.
-pub lanes_but : (row : List ℕ) (k v : ℕ) (g : ℕ → ℕ) → Lanes row g → k < 8 → Lanes (set row k v) (λ t. pick (eqb k t) v (g t))
-lanes_but row k v g l h = record { long = length-set row k v ∙ l.long; each = λ t m. go t m (eqb k t) refl }
-  where
-    go : (t : ℕ) → t < 8 → (s : Bool) → eqb k t ≡ s → get_or (set row k v) t 0 ≡ pick s v (g t)
-    go t m true e = rw (← eqb-true k t e) (get_or-set_same row k v 0 (omega (arith, l.long)))
-    go t m false e = get_or-set_other row k t v 0 (λ q. eqb-false k t e (cc)) ∙ l.each t m
 
 -- Rows: one more, and those that a step outside of them leaves.
 module _ (old new : List ℕ) (i : ℕ) (g : ℕ → ℕ → ℕ) (m : ℕ) (a : Rows old i g m) where

@@ -1,5 +1,7 @@
 pub mod LeastFigures
 pub mod Signed
+pub mod Given
+pub mod Here
 pub mod Laid
 pub mod LaidSteps
 pub mod LaidBoard

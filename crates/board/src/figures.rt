@@ -2,7 +2,8 @@
 ghost use Rattle.std.specs.Prelude.{◌+◌, ◌^◌, ◌≤◌, ◌<◌, ◌≡◌};
 ghost use Rattle.board.specs.Figures.{none_mark, lesser, better_of};
 
-// The figure that stands for none: no sum of figures and prices comes near it, and no sum with it is below it.
+// The figure that stands for none: no sum of figures and prices comes near it, and no sum with it is below it. A number rather than an Option: figures
+// are compared eight at a time by the sign of a difference, where a case of none would be a branch in each lane and twice the bytes.
 pub const NONE: u64 = 1152921504606846976;
 
 // A figure and the place where it was found.

@@ -78,8 +78,8 @@ fn operand_row(set: usize) -> usize
     requires { set < most_sets }
     ensures { (result ≡ operand_row set) × (result < 14) }
 {
-    if usize::count_ones(set) == 1 {
-        return SPAREABLE + usize::trailing_zeros(set) as usize;
+    if set.count_ones() == 1 {
+        return SPAREABLE + set.trailing_zeros() as usize;
     }
     NOTHING
 }
@@ -89,10 +89,10 @@ pub fn spared_row(parts: Parts, e: usize) -> usize
     requires { ((parts.first < most_sets) × (parts.second < most_sets)) × (e < 8) }
     ensures { (result ≡ spared_row parts.first parts.second e) × (result < 38) }
 {
-    if usize::count_ones(parts.first) != 1 {
+    if parts.first.count_ones() != 1 {
         return operand_row(parts.second);
     }
-    if usize::count_ones(parts.second) != 1 {
+    if parts.second.count_ones() != 1 {
         return operand_row(parts.first);
     }
     PAIRS + e

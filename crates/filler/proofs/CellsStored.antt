@@ -1,12 +1,12 @@
 -- The cells of a subquery, stored one after the other; and what is delivered at a site from rows that agree.
 use Prim.Native.Nat.{ℕ, ◌+◌, ◌≤◌, ◌<◌}
 use native.Mathlib.Omega.{arith}
-use mathlib.Core.Path.{◌≡◌, refl, subst, ◌∙◌}
+use mathlib.Core.Path.{◌≡◌, subst, ◌∙◌}
 use mathlib.Core.List.{List}
 use lib.ListN.{length, get_or, set, length-set}
 use lib.Seq.{get_or-set_same, get_or-set_other}
 use lib.Count.{count_trailing_zeros}
-use borrow.Author.Count.{below_none, below_more}
+use borrow.Author.Count.{below_more}
 use borrow.Author.Tests.{eq-eqb, ne_eqb}
 use Rattle.relations.specs.Code.{Listed}
 use Rattle.board.specs.Board.{homes_at, sites_at}
@@ -14,9 +14,6 @@ use Rattle.filler.specs.Cells.{Stored}
 use Rattle.filler.specs.Trials.{Lent, size_in, joined_in, bare_at, start_in}
 use Rattle.sender.specs.Rows.{AtSites}
 use Rattle.sender.specs.Delivering.{Carriable, DeliveredFrom}
-
-pub stored_none : (old : List ℕ) (at : ℕ) (g : ℕ → ℕ) → Stored old old at g 0
-stored_none old at g = record { kept = record { long = refl; below = λ i l. refl; above = λ i l. refl }; each = below_none _ }
 
 stored_more : (old new : List ℕ) (at i v : ℕ) (g : ℕ → ℕ) (t : ℕ) → Stored old new at g t → i ≡ at + t → i < length old → v ≡ g t → Stored old (set new i v) at g (t + 1)
 stored_more old new at i v g t s e room here =

@@ -1,7 +1,8 @@
 -- Where cells stand: how far the loops reach over the sites, and that they stay within what a solve needs.
 use Prim.Native.Nat.{ℕ, ◌+◌, ◌*◌, ◌^◌, ◌≤◌, ◌<◌}
+use native.Mathlib.Decide.{dec_le}
 use native.Mathlib.Omega.{arith}
-use mathlib.Core.Path.{◌≡◌}
+use mathlib.Core.Path.{◌≡◌, sym}
 use lib.Dec.{leb}
 use borrow.Author.Tests.{leb-true, leb-false, le-leb, lt-leb}
 use Rattle.relations.specs.Code.{most_sets}
@@ -13,16 +14,6 @@ use Rattle.query.proofs.Choice.{pick_all}
 use Rattle.tables.specs.Work.{cells_needed, place}
 use Rattle.tables.proofs.Work.{place_mono, row_within, row_spare}
 use Rattle.filler.specs.Cells.{paired, lanes_of, reach}
-
--- A pair that begins at a lane lies within.
-pub pair_within : (h t m : ℕ) → t ≡ 2 * h → t < m → t + 2 ≤ paired m
-unfolding paired
-pair_within h t m e l = omega arith
-
--- Pairs that end past the last lane have gone as far as pairs reach.
-pub pair_last : (h t m : ℕ) → t ≡ 2 * h → t ≤ paired m → m ≤ t → paired m ≡ t
-unfolding paired
-pair_last h t m e l k = omega arith
 
 pub paired_eight : (m : ℕ) → m ≤ 8 → paired m ≤ 8
 unfolding paired
@@ -57,9 +48,31 @@ reach_most s some = by_lanes (λ (m : ℕ). paired m ≤ s + s) s (λ h. omega a
 pub reach_eight : (s : ℕ) → reach s ≤ 8
 reach_eight s = paired_eight (lanes_of s) (lanes_eight s)
 
-pub reach_many : (s : ℕ) → 4 < s → reach s ≡ 8
+-- It is two lanes, four or eight.
+pub reach_two : (s : ℕ) → 1 ≤ s → s ≤ 2 → 2 ≡ reach s
+unfolding paired
+reach_two s some few = omega (arith, lanes_few s (omega arith))
+
+pub reach_four : (s : ℕ) → 2 < s → s ≤ 4 → 4 ≡ reach s
+unfolding paired
+reach_four s more few = omega (arith, lanes_few s few)
+
+pub reach_many : (s : ℕ) → 4 < s → 8 ≡ reach s
 unfolding paired
 reach_many s h = omega (arith, lanes_many s h)
+
+pub reach_else : (s : ℕ) → 1 ≤ s → (reach s ≡ 2 → ⊥) → (reach s ≡ 4 → ⊥) → 8 ≡ reach s
+reach_else s some two four = go (dec_le s 2) (dec_le s 4)
+  where
+    go : Dec (s ≤ 2) → Dec (s ≤ 4) → 8 ≡ reach s
+    go (yes h) d = absurd (two (sym (reach_two s some h)))
+    go (no h) (yes k) = absurd (four (sym (reach_four s (omega arith) k)))
+    go (no h) (no k) = reach_many s (omega arith)
+
+-- A pair of lanes that begins within reach lies within it.
+pub pair_within : (h t e s : ℕ) → t ≡ 2 * h → e ≡ reach s → t < e → (t + 2 ≤ reach s) × (t + 2 ≤ 8)
+unfolding paired
+pair_within h t e s even end low = (omega arith, omega (arith, reach_eight s))
 
 -- A set of relations is below 512.
 pub set_low : (q : Query) → Valid q → (S : ℕ) → S < 2 ^ relations_of q → S < most_sets

@@ -33,9 +33,6 @@ use Rattle.filler.proofs.Columns.{startable, cells_are}
 use Rattle.filler.proofs.SetsFilled.{Going, going_skip, going_on}
 
 module _ (q : Query) (l : Lent) (table : List ℕ) (f : Fillable q l table) where
-  pub joins_few : joins_at l.board ≤ 8
-  joins_few = let v = f.laid.valid in omega (arith, f.laid.board.joins, v.tree.joins, v.relations_most)
-
   pub lines_here : Carriable l.board 0
   lines_here =
       let c = lines_carriable q l f.laid 0 in

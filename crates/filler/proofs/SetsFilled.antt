@@ -25,7 +25,7 @@ use Rattle.tables.proofs.Trials.{joins_none, joins_next}
 use Rattle.tables.proofs.Work.{place_after, place_first, place_next, place_skip, place_before}
 use Rattle.board.specs.Figures.{none_mark, mark}
 use Rattle.filler.specs.Cells.{reach, Stored}
-use Rattle.filler.specs.Filling.{Filled, FilledFrom}
+use Rattle.filler.specs.Filling.{Filled}
 use Rattle.filler.proofs.Places.{reach_least, reach_within}
 
 -- What filling has reached when set S is next, and its cells would stand from `next` on.
@@ -132,15 +132,3 @@ module _ (combine : ℕ → ℕ → ℕ) (q : Query) (v : Valid q) where
         where
           reaches : S < all (relations_of q) → place q S 0 + reach (sites_of q) ≤ cells_needed q
           reaches h = reach_within q v S (all (relations_of q)) s (subqueries_law q.joins (relations_of q) v.tree).whole h
-
--- After the last set every subquery but the whole query is filled.
-pub going_done : (combine : ℕ → ℕ → ℕ) (q : Query) (old work places : List ℕ) (S next r e : ℕ) → Going combine q old work places S next r → S ≡ e → e ≡ all (relations_of q) →
-    FilledFrom combine q old work places r
-going_done combine q old work places S next r e g h k =
-    let last : S ≡ all (relations_of q) = h ∙ k in
-    record {
-      cells = subst (λ (m : ℕ). Filled combine q places work m) last g.cells;
-      long = g.long;
-      later = g.later;
-      joins = g.joins ∙ ap (joins_below q.joins (relations_of q)) last;
-    }

@@ -13,6 +13,7 @@ use Rattle.board.specs.Figures.{none_mark, least_of}
 use Rattle.filler.specs.Cells.{place_in, reach}
 use Rattle.board.specs.Board.{lane, side_at, fixed_at, rate_at, spared_row, homes_at, sites_at}
 use Rattle.sender.specs.Delivering.{Carriable}
+use Rattle.filler.specs.declared.trials.Tables.{Tables}
 
 -- What the loops are lent: the board, the sizes, the places of the subqueries' first cells, and the work area.
 pub record Lent : Type 0 where
@@ -23,6 +24,9 @@ pub record Lent : Type 0 where
 
 abbrev pub lent : (board sizes places work : List ℕ) → Lent
 lent board sizes places work = record { board = board; sizes = sizes; places = places; work = work }
+
+abbrev pub lent_of : Tables → Lent
+lent_of t = lent t.board.now t.sizes.now t.places.now t.work.now
 
 abbrev pub size_in : Lent → ℕ → ℕ
 size_in l S = get_or l.sizes S 0

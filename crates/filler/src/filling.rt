@@ -10,8 +10,7 @@ ghost use Rattle.sender.specs.Delivering.{DeliveredFrom};
 ghost use Rattle.filler.specs.Filling.{Fillable, FilledFrom};
 
 use crate::delivering::deliver;
-use crate::rows::start_row;
-use crate::trials::size_of;
+use crate::trials::Tables;
 use board::{BOARD, joins_of, sites_of};
 use relations::{SETS, whole};
 use sender::is_direct;
@@ -33,8 +32,14 @@ fn fill_set<'a>(
         (start_in ◌+◌ (lent board.now sizes.now places.now work.old) joins set) r ×
         Stored work.old work.new at (λ (t : ℕ). get_or r t 0) (reach (sites_at board.now))) }
 {
-    let row = start_row(board, sizes, places, &*work, set, joins);
-    let size = size_of(sizes, set);
+    let t = Tables {
+        board,
+        sizes,
+        places,
+        work: &*work,
+    };
+    let row = t.start_row(set, joins);
+    let size = t.size_of(set);
     deliver(&mut *work, board, row, size, at, direct);
 }
 
@@ -55,8 +60,7 @@ pub fn fill<'a>(
     let direct = is_direct(board);
     let mut tried = 0;
     let mut next = 0;
-    let mut set = 1;
-    while set < end {
+    for set in 1..end {
         let entry = table[set];
         if is_connected(entry) {
             fill_set(
@@ -71,11 +75,8 @@ pub fn fill<'a>(
             );
             places[set] = next as u32;
             next += sites;
-            tried = tried + (usize::count_ones(set) as u64 - 1);
-            set += 1;
-            continue;
+            tried += u64::from(usize::count_ones(set)) - 1;
         }
-        set += 1;
     }
     tried
 }

@@ -1,22 +1,27 @@
 // Where a cell stands in the work area: subqueries in ascending number, a cell for each site. And how much of a row the loops go over.
-ghost use Rattle.std.specs.Prelude.{◌<◌, ◌≡◌};
+ghost use Rattle.std.specs.Prelude.{◌<◌, ◌≤◌, ◌≡◌};
 ghost use Rattle.relations.specs.Code.{most_sets};
-ghost use Rattle.filler.specs.Cells.{place_in, lanes_of};
+ghost use Rattle.filler.specs.Cells.{place_in, reach};
 
-use query::amount;
-use relations::SETS;
+use crate::trials::Tables;
 
-// The place of a subquery's cell at a site, by the places of the first cells.
-pub fn place(places: &[u32; SETS], set: usize, site: usize) -> usize
-    requires { (set < most_sets) × (site < 8) }
-    ensures { result ≡ place_in places.now set site }
-{
-    amount(places[set]) as usize + site
+impl<'a> Tables<'a> {
+    // The place of a subquery's cell at a site, by the places of the first cells.
+    pub fn place(self, set: usize, site: usize) -> usize
+        requires { (set < most_sets) × (site < 8) }
+        ensures { result ≡ place_in self.entry.places.now set site }
+    {
+        self.places[set] as usize + site
+    }
 }
 
-// The lanes of a row that the loops go over, two at a time: one for each of up to four sites, else all eight.
-pub(crate) fn lanes(sites: usize) -> usize
-    ensures { result ≡ lanes_of sites }
+// The lanes of a row that the loops go over, two at a time up to four sites, else all eight.
+pub(crate) fn reach(sites: usize) -> usize
+    requires { 1 ≤ sites }
+    ensures { result ≡ reach sites }
 {
-    if sites <= 4 { sites } else { 8 }
+    if sites <= 2 {
+        return 2;
+    }
+    if sites <= 4 { 4 } else { 8 }
 }

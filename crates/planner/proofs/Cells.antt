@@ -1,7 +1,7 @@
 -- The areas that solve needs: that the code works out the cells from what the load counted, that more cells change nothing and fewer are refused, and
 -- what solve comes to with enough.
 use Rattle.std.proofs.Common.{Option, Some, None}
-use Prim.Native.Nat.{ℕ, ◌+◌, ◌*◌, ◌≤◌, ◌<◌}
+use Prim.Native.Nat.{ℕ, ◌+◌, ◌*◌, ◌≤◌}
 use native.Mathlib.Omega.{arith}
 use mathlib.Core.Path.{◌≡◌, refl, sym, ◌∙◌}
 use mathlib.Core.List.{List, ◌++◌}
@@ -22,7 +22,7 @@ use Rattle.tables.proofs.Work.{most_cells_lem}
 use Rattle.planner.specs.declared.Planner.{Planner}
 use Rattle.planner.specs.declared.Standing.{Standing}
 use Rattle.planner.specs.State.{State}
-use Rattle.planner.specs.Solve.{found, refused, Solving, solving_of, writing, solved, solve, used, needed, solve_needed, EnoughLaw}
+use Rattle.planner.specs.Solve.{found, refused, Solving, solving_of, writing, solved, solve, needed, solve_needed, EnoughLaw}
 use Rattle.planner.specs.Code.{stands_in, state_of}
 
 -- The code's constant `CELLS`.

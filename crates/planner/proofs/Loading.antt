@@ -3,14 +3,9 @@
 use Rattle.std.proofs.Common.{Some, Result, Ok, Err}
 use Prim.Native.Nat.{ℕ}
 use mathlib.Core.List.{List}
-use mathlib.Core.Path.{◌≡◌, refl}
-use mathlib.Core.Option.{some}
-use native.Mathlib.Omega.{arith}
-use Rattle.query.specs.declared.Query.{Query}
+use mathlib.Core.Path.{◌≡◌}
 use Rattle.query.specs.declared.refusal.Refusal.{Refusal}
 use Rattle.query.specs.Refusals.{number_of}
-use Rattle.sections.specs.Fields.{Read, value}
-use Rattle.sections.specs.Fields as fields
 use Rattle.decoder.specs.declared.Form.{Form}
 use Rattle.decoder.specs.declared.decoding.Decoded.{Decoded}
 use Rattle.decoder.specs.Code.{query_of}
@@ -19,9 +14,7 @@ use Rattle.files.proofs.RowsAsSizes.{rows_as_sizes}
 use Rattle.planner.specs.declared.Planner.{Planner}
 use Rattle.planner.specs.declared.Standing.{Standing}
 use Rattle.planner.specs.Counted.{subqueries_of}
-use Rattle.planner.specs.State.{State}
-use Rattle.planner.specs.Done.{done_with}
-use Rattle.planner.specs.Load.{loaded, refused, load_decoded, load_by, LoadRowsLaw}
+use Rattle.planner.specs.Load.{loaded, refused, load_by, LoadRowsLaw}
 use Rattle.planner.specs.Code.{state_of, done_of}
 
 module _ (p : Planner) (f : Form) (file : List ℕ) (r : Result Decoded Refusal) (decoded : query_of r ≡ decode f file) where

@@ -1,8 +1,8 @@
 -- A plan that the solver finds lies whole in its array, and is what its front has.
 use Prim.Native.Nat.{ℕ, ◌+◌, ◌≤◌}
 use native.Mathlib.Omega.{arith}
-use mathlib.Core.Path.{◌≡◌, refl, sym, ◌∙◌}
-use mathlib.Core.List.{List, ◌++◌}
+use mathlib.Core.Path.{◌≡◌, sym, ◌∙◌}
+use mathlib.Core.List.{List}
 use lib.ListN.{length, take, drop}
 use lib.Seq.{length-take-le, take-append_seam}
 use Rattle.query.specs.declared.Query.{Query}
@@ -12,7 +12,7 @@ use Rattle.query.specs.Query.{Valid}
 use Rattle.rules.specs.Allowed.{longest_plan}
 use Rattle.rules.proofs.Combinations.{plus_combines}
 use Rattle.solver.specs.declared.Solution.{Solution}
-use Rattle.solver.specs.declared.Solution.TheVariants.{Found, NoRoute}
+use Rattle.solver.specs.declared.Solution.TheVariants.{Found}
 use Rattle.solver.specs.Solution.{solution_of, plan_after}
 use Rattle.tables.specs.Tables.{cheapest, trials}
 use Rattle.tables.specs.Written.{written}

@@ -49,14 +49,7 @@ fn relined(q: Query, sender: usize, receiver: usize, terms: Terms) -> Query
 
 // Link: replaces the line from the sender to the receiver.
 #[tactic(auto, unfolding(crate::specs::Link::link, crate::specs::Link::sites_listed, crate::specs::Link::terms_in_range))]
-pub fn link(
-    p: Planner,
-    sender: u64,
-    receiver: u64,
-    opened: u64,
-    fixed: u64,
-    rate: u64,
-) -> After<()>
+pub fn link(p: Planner, sender: u64, receiver: u64, opened: u64, fixed: u64, rate: u64) -> After<()>
     ensures { done_of (of_link result.answer) result.planner ≡ link (link_of sender receiver opened fixed rate) (state_of p) }
 {
     let Some(standing) = p.standing else {

@@ -9,11 +9,13 @@ use borrow.Author.Tests.{eqb-true, eqb-false, eq-eqb, ne_eqb}
 use lib.Bits.{bit_and, bit_or}
 use lib.Count.{ones, ones-le}
 use lib.Dec.{eqb}
-use lib.ListN.{get_or}
+use lib.ListN.{length, get_or}
+use Rattle.std.specs.Prelude.{Option, Some, None}
+use Rattle.std.specs.Option.{unwrap_or}
 use Rattle.relations.specs.declared.Joins.{Joins}
 use Rattle.relations.specs.Sets.{bit, put, Sub}
 use Rattle.relations.specs.Growth.{first, second, inside, leads, along, grow}
-use Rattle.relations.specs.Code.{ends_of, leads_out, leads_by, Growable, FirstLeading}
+use Rattle.relations.specs.Code.{ends_of, is_skipped, leads_out, leads_by, Growable, FirstLeading}
 use Rattle.relations.proofs.Bits.{ext, bit_le, bit_none, bit_and_lem, bit_or_lem, and_apart, single_apart, bit_pow, bit_put}
 use Rattle.relations.proofs.Counts.{ones_mono}
 use Rattle.relations.proofs.Leads.{Leads, leads_means, bit_along, along_within, ones_along}
@@ -44,10 +46,16 @@ none_in J A e = go (eqb (bit A f + bit A s) 0) refl
         eqb-false (bit A f + bit A s) 0 p
         (omega (arith, ap (λ (x : ℕ). bit x f) q, ap (λ (x : ℕ). bit x s) q, bit_none f, bit_none s, bit_and_lem A M f, bit_and_lem A M s, bit_put (2 ^ f) s f, bit_put (2 ^ f) s s, bit_pow f, bit_pow s))
 
+-- A join is skipped by its number; the count of joins, which is no join, skips none.
+skipped : (J : Joins) (skip : Option ℕ) (e : ℕ) → e < J.count → is_skipped skip e ≡ eqb e (unwrap_or skip J.count)
+skipped J (Some x) e h = refl
+skipped J None e h = sym (ne_eqb e J.count (λ q. omega arith))
+
 -- By its ends a join leads out just where it does by its two relations.
-leads_by_lem : (J : Joins) (l : List ℕ) (S x A e : ℕ) → get_or l e 0 ≡ ends_of J e → leads_by l S x A e ≡ leads J S x A e
+leads_by_lem : (J : Joins) (l : List ℕ) (S : ℕ) (skip : Option ℕ) (A e : ℕ) → get_or l e 0 ≡ ends_of J e → e < J.count → leads_by l S skip A e ≡ leads J S (unwrap_or skip J.count) A e
 unfolding leads leads_out inside
-leads_by_lem J l S x A e is = rw (is, ends_in J S e, none_in J A e, inside_counts) (go (not (eqb e x)) (inside J S e) (bit A (first J e) + bit A (second J e)) (omega (arith, bit_le A (first J e), bit_le A (second J e))))
+leads_by_lem J l S skip A e is h =
+    rw (is, skipped J skip e h, ends_in J S e, none_in J A e, inside_counts) (go (not (eqb e (unwrap_or skip J.count))) (inside J S e) (bit A (first J e) + bit A (second J e)) (omega (arith, bit_le A (first J e), bit_le A (second J e))))
   where
     inside_counts : eqb (bit_and A (ends_of J e)) (ends_of J e) ≡ eqb (bit A (first J e) + bit A (second J e)) 2
     inside_counts = ends_in J A e
@@ -60,33 +68,32 @@ leads_by_lem J l S x A e is = rw (is, ends_in J S e, none_in J A e, inside_count
     go true true (suc (suc zero)) h = refl
     go true true (suc (suc (suc c))) h = absurd (omega arith)
 
-pub few_joins : (J : Joins) (l : List ℕ) (m S A : ℕ) → Growable J l m S A → m ≤ 8
-few_joins J l m S A g = omega (arith, g.all_joins, g.drawn.few)
+module _ (J : Joins) (l : List ℕ) (S : ℕ) (skip : Option ℕ) (A : ℕ) (g : Growable J l S A) where
+  abbrev x : ℕ
+  x = unwrap_or skip J.count
 
-module _ (J : Joins) (l : List ℕ) (m S x A e : ℕ) (g : Growable J l m S A) (f : FirstLeading l m S x A e) where
-  same : (i : ℕ) → i < m → leads_by l S x A i ≡ leads J S x A i
-  same i h = leads_by_lem J l S x A i (g.ends.each i (omega (arith, g.all_joins)))
+  same : (i : ℕ) → i < length l → leads_by l S skip A i ≡ leads J S x A i
+  same i h = leads_by_lem J l S skip A i (g.ends.each i (omega (arith, g.ends.long))) (omega (arith, g.ends.long))
 
-  pub grow_done : m ≤ e → A ≡ grow J S x (J.count + 1) A
-  grow_done h = sym (grow_still J S x (J.count + 1) A (closed_of_none J S x A (λ i b. sym (same i (omega (arith, g.all_joins))) ∙ f.below i (omega (arith, g.all_joins)))))
+  pub grow_done : FirstLeading l S skip A None → A ≡ grow J S x (J.count + 1) A
+  grow_done f = sym (grow_still J S x (J.count + 1) A (closed_of_none J S x A (λ i b. let h : i < length l = omega (arith, g.ends.long) in sym (same i h) ∙ f i h)))
 
-  module _ (M B : ℕ) (h : e < m) (ends-are : M ≡ get_or l e 0) (b : B ≡ bit_or A M) where
+  module _ (e : ℕ) (f : FirstLeading l S skip A (Some e)) (B : ℕ) (b : B ≡ bit_or A (get_or l e 0)) where
     known : e < J.count
-    known = omega (arith, g.all_joins)
+    known = omega (arith, g.ends.long, f.in_list)
 
     leading : Leads J S x A e
-    leading = leads_means J S x A e (sym (same e h) ∙ f.found h)
+    leading = leads_means J S x A e (sym (same e f.in_list) ∙ f.leads)
 
     followed : B ≡ along J A e
     unfolding ends_of
-    followed = b ∙ ext (bit_or A M) (along J A e) (λ r.
-        omega (arith, bit_or_lem A M r, ap (λ (y : ℕ). bit y r) (ends-are ∙ g.ends.each e known), bit_put (2 ^ first J e) (second J e) r, bit_along J A e r))
+    followed = b ∙ ext (bit_or A (get_or l e 0)) (along J A e) (λ r.
+        omega (arith, bit_or_lem A (get_or l e 0) r, ap (λ (y : ℕ). bit y r) (g.ends.each e known), bit_put (2 ^ first J e) (second J e) r, bit_along J A e r))
 
-    pub follow_within : Growable J l m S B
+    pub follow_within : Growable J l S B
     follow_within =
         record {
           drawn = g.drawn;
-          all_joins = g.all_joins;
           ends = g.ends;
           in_all = g.in_all;
           taken_in = subst (λ (C : ℕ). Sub C S) (sym followed) (along_within J A S e g.taken_in leading.first_in leading.second_in);

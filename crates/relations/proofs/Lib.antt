@@ -22,3 +22,4 @@ pub mod Centred
 pub mod Stars
 pub mod SubqueriesMost
 pub mod Below
+pub mod Made

@@ -7,7 +7,8 @@ use native.Mathlib.Omega.{arith}
 use borrow.Author.Count.{below_none, below_more}
 use borrow.Author.Tests.{lt-ltb}
 use lib.Dec.{ltb}
-use lib.ListN.{length, get_or, set, length-set}
+use lib.ListN.{length, get_or, set, take, length-set}
+use Rattle.std.proofs.lemmas.List.{length-take-le, get_or-take}
 use lib.Seq.{get_or-set_same, get_or-set_other}
 use Rattle.relations.specs.Code.{Listed, or_none}
 
@@ -32,3 +33,7 @@ module _ (l : List ℕ) (g : ℕ → ℕ) (n : ℕ) where
   pub listed_first : (s k : ℕ) → Listed l (λ (i : ℕ). or_none (ltb i s) (g i)) n k → n ≤ k → s ≤ n → Listed l g n s
   listed_first s k r h m =
       record { long = r.long; each = λ i below. r.each i (omega arith) ∙ ap (λ (d : Bool). or_none d (g i)) (lt-ltb i s below) }
+
+  -- Its first s entries, by themselves.
+  pub listed_front : (s : ℕ) → Listed l g n s → s ≤ n → Listed (take s l) g s s
+  listed_front s r h = record { long = length-take-le s l (omega (arith, r.long)); each = λ i below. get_or-take s l i 0 below ∙ r.each i below }

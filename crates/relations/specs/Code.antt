@@ -1,5 +1,5 @@
 -- What the contracts of the code cite besides the definitions: what each function asks of its joins, and what it answers.
-use Rattle.std.specs.Prelude.{ℕ, ◌+◌, ◌^◌, ◌≤◌, ◌<◌, ◌≡◌, Bool, true, false, not, ◌&&◌, List, eqb, length, get_or}
+use Rattle.std.specs.Prelude.{ℕ, ◌+◌, ◌^◌, ◌≤◌, ◌<◌, ◌≡◌, Bool, true, false, not, ◌&&◌, List, Option, Some, None, eqb, length, get_or}
 use Rattle.std.specs.Int.Bits.{bit_and}
 use Rattle.relations.specs.declared.Joins.{Joins}
 use Rattle.relations.specs.Sets.{Sub, put}
@@ -33,29 +33,34 @@ ends_of J e = put (2 ^ first J e) (second J e)
 abbrev pub EndsOf : Joins → List ℕ → ℕ → Type 0
 EndsOf J l m = Listed l (ends_of J) 8 m
 
--- The first relation of each of the first m joins, as a set.
-abbrev pub FirstsOf : Joins → List ℕ → ℕ → Type 0
-FirstsOf J l m = Listed l (λ (e : ℕ). 2 ^ first J e) 8 m
-
 -- The ends M lead out of A within S: they lie in S, and A has one of them and not both.
 unfoldable pub leads_out : (M S A : ℕ) → Bool
 leads_out M S A = (eqb (bit_and S M) M && not (eqb (bit_and A M) 0)) && not (eqb (bit_and A M) M)
 
--- Join e, whose ends are listed, is not the skipped join x and leads out of A within S.
-abbrev pub leads_by : List ℕ → (S x A e : ℕ) → Bool
-leads_by l S x A e = not (eqb e x) && leads_out (get_or l e 0) S A
+-- Join e is the skipped one; none may be skipped.
+abbrev pub is_skipped : Option ℕ → ℕ → Bool
+is_skipped (Some x) e = eqb e x
+is_skipped None e = false
 
--- Of m joins e is the lowest that leads out, and m where none does.
-pub record FirstLeading (l : List ℕ) (m S x A e : ℕ) : Type 0 where
-  pub range : e ≤ m
-  pub below : (i : ℕ) → i < e → leads_by l S x A i ≡ false
-  pub found : e < m → leads_by l S x A e ≡ true
+-- Join e, whose ends are listed, is not the skipped join and leads out of A within S.
+abbrev pub leads_by : List ℕ → ℕ → Option ℕ → ℕ → ℕ → Bool
+leads_by l S skip A e = not (is_skipped skip e) && leads_out (get_or l e 0) S A
 
--- What growth asks: the ends of all joins, m of them, a set of relations, and a part of it to grow from.
-pub record Growable (J : Joins) (l : List ℕ) (m S A : ℕ) : Type 0 where
+-- Join e is the lowest that leads out.
+pub record Leading (l : List ℕ) (S : ℕ) (skip : Option ℕ) (A e : ℕ) : Type 0 where
+  pub in_list : e < length l
+  pub below : (i : ℕ) → i < e → leads_by l S skip A i ≡ false
+  pub leads : leads_by l S skip A e ≡ true
+
+-- Which join is the lowest that leads out; none where none does.
+abbrev pub FirstLeading : List ℕ → ℕ → Option ℕ → ℕ → Option ℕ → Type 0
+FirstLeading l S skip A (Some e) = Leading l S skip A e
+FirstLeading l S skip A None = (i : ℕ) → i < length l → leads_by l S skip A i ≡ false
+
+-- What growth asks: the ends of all joins, a set of relations, and a part of it to grow from.
+pub record Growable (J : Joins) (l : List ℕ) (S A : ℕ) : Type 0 where
   pub drawn : Drawn J
-  pub all_joins : m ≡ J.count
-  pub ends : EndsOf J l J.count
+  pub ends : Listed l (ends_of J) J.count J.count
   pub in_all : S < 2 ^ (J.count + 1)
   pub taken_in : Sub A S
 

@@ -5,7 +5,7 @@ ghost use Rattle.relations.specs.Code.{Drawn, SidesOf};
 
 use crate::Joins;
 use crate::growing::grow;
-use crate::masks::{ends, firsts};
+use crate::masks::ends;
 use crate::member::{single, whole};
 
 // The joins reach every relation from relation 0.
@@ -13,10 +13,9 @@ pub fn reaches(joins: Joins) -> bool
     requires { Drawn joins }
     ensures { result ≡ reaches joins (joins.count + 1) }
 {
-    let count = joins.count;
-    let every = whole(count + 1);
+    let every = whole(joins.count + 1);
     let around = ends(joins);
-    grow(&around, count, every, count, single(0)) == every
+    grow(&around[..joins.count], every, None, single(0)) == every
 }
 
 // The side of each join.
@@ -26,12 +25,10 @@ pub fn sides(joins: Joins) -> [usize; 8]
 {
     let every = whole(joins.count + 1);
     let around = ends(joins);
-    let from = firsts(joins);
-    let mut found = [0usize; 8];
-    let mut e = 0;
-    while e < joins.count {
-        found[e] = grow(&around, joins.count, every, e, from[e]);
-        e += 1;
+    let mut found = [0; 8];
+    for e in 0..joins.count {
+        let from = single(usize::from(joins.first[e]));
+        found[e] = grow(&around[..joins.count], every, Some(e), from);
     }
     found
 }

@@ -36,9 +36,6 @@ place_scaled S k h l = record { fits = omega (arith, mul-le-mul {n₁ = S} {m₁
 pub begun_none : (J : Joins) (n : ℕ) (rows divisors : List ℕ) (old : Lists) → Long old → Begun J n rows divisors old old 0
 begun_none J n rows divisors old long = record { long = long; right = λ r h. absurd (omega arith); each = λ X. inl (record { size = refl; waiting = refl }) }
 
-pub begun_all : (J : Joins) (n m : ℕ) (rows divisors : List ℕ) (old new : Lists) → Begun J n rows divisors old new m → n ≤ m → Begun J n rows divisors old new n
-begun_all J n m rows divisors old new b h = record { long = b.long; right = λ r l. b.right r (omega arith); each = b.each }
-
 module _ (J : Joins) (rows near : List ℕ) (old : Lists) (a : Startable J near old) (r : ℕ) (h : r ≤ J.count) where
   pub begun_near : get_or near r 0 ≡ neighbours J r
   begun_near = a.near_is.each r (omega arith)
@@ -63,13 +60,14 @@ module _ (J : Joins) (rows near : List ℕ) (old : Lists) (a : Startable J near 
         each = each_stored (λ Y. (i : ℕ) × (i < n) × (Y ≡ 2 ^ i)) old new X size w (r, low, x) b.each;
       }
 
+  -- The last of them.
+  pub begun_last :
+      (divisors : List ℕ) (new : Lists) (X size up : ℕ) → r ≡ J.count → Begun J (J.count + 1) rows divisors old new r → X ≡ 2 ^ r → size ≡ get_or rows r 0 →
+      up ≡ above (J.count + 1) X → Begun J (J.count + 1) rows divisors old (stored new X size (bit_and (get_or near r 0) up)) (J.count + 1)
+  begun_last divisors new X size up last b x e q =
+      subst (λ (k : ℕ). Begun J (J.count + 1) rows divisors old (stored new X size (bit_and (get_or near r 0) up)) (k + 1)) last (begun_next divisors new X size up b x e q)
+
 -- Where a relation by itself stands.
 module _ (J : Joins) (near : List ℕ) (old : Lists) (a : Startable J near old) (r : ℕ) (h : r ≤ J.count) where
-  pub single_word : r < 64
-  single_word = omega (arith, a.few)
-
   pub single_in : (X : ℕ) → X ≡ 2 ^ r → (J.count + 1 ≤ 9) × ((0 < X) × (X < 2 ^ (J.count + 1)))
   single_in X e = (omega (arith, a.few), (rw e (pow_pos r), rw e (pow-lt (omega arith))))
-
-  pub single_place : (X : ℕ) → X ≡ 2 ^ r → X < most_sets
-  single_place X e = place_in (J.count + 1) X (omega (arith, a.few)) (single_in X e).1.1

@@ -1,11 +1,11 @@
 -- The loop over all sets, by the table: what it stands on, and what each turn asks and gives.
 use Prim.Native.Nat.{ℕ, ◌+◌, ◌^◌, ◌≤◌, ◌<◌}
 use native.Mathlib.Omega.{arith}
-use mathlib.Core.Path.{◌≡◌, sym, ap, subst, ◌∙◌}
+use mathlib.Core.Path.{◌≡◌, refl, sym, ap, subst, ◌∙◌}
 use mathlib.Core.Bool.{Bool, true, false}
 use mathlib.Core.List.{List}
 use lib.ListN.{length, get_or, replicate, length-replicate}
-use lib.Pow.{pow_pos, pow_mono}
+use lib.Pow.{pow_mono}
 use Rattle.relations.specs.Code.{Drawn, Listed, most_sets}
 use Rattle.relations.specs.declared.Joins.{Joins}
 use Rattle.relations.specs.Trees.{is_subquery}
@@ -24,9 +24,13 @@ pub record Standing (J : Joins) (table rows divisors near : List ℕ) : Type 0 w
   pub near_is : Listed near (neighbours J) 9 (J.count + 1)
 
 pub standing :
-    (J : Joins) (table rows divisors near : List ℕ) → Tabled J table → Counts rows → Counts divisors → Listed near (neighbours J) 9 (J.count + 1) →
+    {J : Joins} {table rows divisors near : List ℕ} → Tabled J table → Counts rows × Counts divisors → Listed near (neighbours J) 9 (J.count + 1) →
     Standing J table rows divisors near
-standing J table rows divisors near t r d l = record { tabled = t; rows_in = r; divisors_in = d; near_is = l }
+standing t c l = record { tabled = t; rows_in = c.0; divisors_in = c.1; near_is = l }
+
+-- A set below a power of two is below every greater one.
+pub below_all : (S end k n : ℕ) → S < end → end ≡ 2 ^ k → k ≤ n → S < 2 ^ n
+below_all S end k n h e l = omega (arith, pow_mono l)
 
 -- What holds of joins by a table, and of lists of zeros.
 pub drawn_tabled : (J : Joins) (table : List ℕ) → Tabled J table → Drawn J
@@ -44,17 +48,17 @@ module _ (J : Joins) (table rows divisors near : List ℕ) (s : Standing J table
 
   pub started :
       (old new : Lists) → Begun J (J.count + 1) rows divisors old new (J.count + 1) → old.sizes ≡ replicate most_sets 0 →
-      (1 ≤ 2 ^ (J.count + 1)) × Reached J (J.count + 1) rows divisors new 1
+      Reached J (J.count + 1) rows divisors new 1
   started old new b e =
-      (pow_pos (J.count + 1), reached_first J (J.count + 1) s.tabled.tree rows divisors old new b (λ X. ap (λ (l : List ℕ). get_or l X 0) e ∙ omega (arith, zeros_up_to 0 most_sets X)))
+      reached_first J (J.count + 1) s.tabled.tree rows divisors old new b (λ X. ap (λ (l : List ℕ). get_or l X 0) e ∙ omega (arith, zeros_up_to 0 most_sets X))
 
-  pub set_place : (S end : ℕ) → S < end → end ≡ 2 ^ (J.count + 1) → S < most_sets
-  set_place S end h e = omega (arith, pow_mono {i = J.count + 1} {j = 9} nine)
+  pub set_place : (S : ℕ) → S < 2 ^ (J.count + 1) → S < most_sets
+  set_place S h = omega (arith, pow_mono {i = J.count + 1} {j = 9} nine)
 
-  module _ (l : Lists) (S end : ℕ) (h : S < end) (e : end ≡ 2 ^ (J.count + 1)) (r : Reached J (J.count + 1) rows divisors l S) (d : Bool)
+  module _ (l : Lists) (S : ℕ) (h : S < 2 ^ (J.count + 1)) (r : Reached J (J.count + 1) rows divisors l S) (d : Bool)
       (is : d ≡ is_connected (get_or table S 0)) where
     test : d ≡ is_subquery J (J.count + 1) S
-    test = tested J table S end d s.tabled is h e
+    test = tested J table S (2 ^ (J.count + 1)) d s.tabled is h refl
 
     pub extendable : d ≡ true → Extendable J (J.count + 1) table rows divisors near l S
     extendable t = record {
@@ -78,8 +82,6 @@ module _ (J : Joins) (table rows divisors near : List ℕ) (s : Standing J table
     passes f = reached_past J (J.count + 1) s.tabled.tree rows divisors S l (sym test ∙ f) r
 
   pub worked_out :
-      (l : Lists) (S end : ℕ) → end ≤ S → end ≡ 2 ^ (J.count + 1) → S ≤ 2 ^ (J.count + 1) → Reached J (J.count + 1) rows divisors l S →
-      l.sizes ≡ worked_sizes J (J.count + 1) rows divisors
-  worked_out l S end h e k r =
-      let last : S ≡ 2 ^ (J.count + 1) = omega arith in
+      (l : Lists) (S : ℕ) → S ≡ 2 ^ (J.count + 1) → Reached J (J.count + 1) rows divisors l S → l.sizes ≡ worked_sizes J (J.count + 1) rows divisors
+  worked_out l S last r =
       reached_all J (J.count + 1) s.tabled.tree rows divisors l nine (subst (λ (x : ℕ). Reached J (J.count + 1) rows divisors l x) last r)

@@ -1,11 +1,14 @@
 -- The size once a relation has joined in: the product fits, the quotient is rounded up, and it is cut to the most that a size may be.
-use Prim.Native.Nat.{ℕ, zero, suc, ◌+◌, ◌-◌, ◌*◌, ◌/◌, ◌≤◌, ◌<◌, min}
-use native.Mathlib.Nat.{mul-le-mul, mul-le-mul_right, div-mul-le_self, lt-mul-div-succ, add-mul, mul_comm}
+use Prim.Native.Nat.{ℕ, zero, suc, ◌+◌, ◌-◌, ◌*◌, ◌/◌, ◌%◌, ◌≤◌, ◌<◌, min}
+use native.Mathlib.Nat.{mul-le-mul, mul-le-mul_right, div-mul-le_self, lt-mul-div-succ, lt-div-mul-add, add-mul, mul_comm}
+use native.Mathlib.Decide.{dec_lt}
 use native.Mathlib.Omega.{arith}
 use mathlib.Core.Path.{◌≡◌, ◌∙◌}
 use mathlib.Core.List.{List}
 use mir.Syntax.{w64}
 use mir.Val.{Fits}
+use Rattle.std.specs.Int.{div_ceil}
+use Rattle.std.proofs.lemmas.Grind.{div_ceil_times}
 use Rattle.relations.specs.declared.Joins.{Joins}
 use Rattle.relations.specs.Sets.{lowest}
 use Rattle.sizing.specs.Worked.{most_size, joined_size, size_after, worked_size}
@@ -15,21 +18,32 @@ use Rattle.sizing.specs.Theorems.{ProductFits, RoundedUpLaw}
 pub product_fits : ProductFits
 product_fits size rows h k = omega (arith, mul-le-mul {n₁ = size} {m₁ = rows} {n₂ = most_size} {m₂ = 1_000_000} h k)
 
--- The product, and with the divisor, in 64 bits.
+-- The product in 64 bits.
 pub product_word : (size rows : ℕ) → size ≤ most_size → rows ≤ 1_000_000 → Fits w64 (size * rows)
 product_word size rows h k = record { fits = omega (arith, product_fits size rows h k) }
 
-pub sum_word : (size rows product divisor : ℕ) → size ≤ most_size → rows ≤ 1_000_000 → divisor ≤ 1_000_000 → product ≡ size * rows → Fits w64 (product + (divisor - 1))
-sum_word size rows product divisor h k l e = record { fits = omega (arith, product_fits size rows h k) }
+-- A quotient rounded up.
+no_more : (a b p q : ℕ) → q * b ≤ a → a < p * b + b → q ≤ p
+no_more a b p q h k = elim (dec_lt p q) [ yes l ↦ more (mul-le-mul_right b (omega arith)) | no l ↦ omega arith ]
+  where
+    more : (p + 1) * b ≤ q * b → q ≤ p
+    more g = omega (arith, add-mul p 1 b)
 
--- Below the most it is the quotient, else the most.
-pub size_below : (size rows divisor : ℕ) → (size * rows + (divisor - 1)) / divisor < most_size → (size * rows + (divisor - 1)) / divisor ≡ joined_size size rows divisor
-unfolding joined_size
-size_below size rows divisor h = omega arith
+ceil_is : (a b : ℕ) → 1 ≤ b → div_ceil a b ≡ (a + (b - 1)) / b
+ceil_is a b some =
+    let q = a / b + min 1 (a % b) in
+    let p = (a + (b - 1)) / b in
+    let around : (a ≤ q * b) × (q * b < a + b) = div_ceil_times a b some in
+    let under : p * b ≤ a + (b - 1) = div-mul-le_self (a + (b - 1)) b in
+    let over : a + (b - 1) < p * b + b = lt-div-mul-add {a = a + (b - 1)} {b = b} some in
+    let above : q ≤ p = no_more (a + (b - 1)) b p q (omega (arith, around.1)) over in
+    let below : p ≤ q = no_more (a + (b - 1)) b q p under (omega (arith, around.0)) in
+    omega arith
 
-pub size_most : (size rows divisor : ℕ) → most_size ≤ (size * rows + (divisor - 1)) / divisor → most_size ≡ joined_size size rows divisor
+-- Cut to the most, it is the size.
+pub cut_is : (size rows divisor : ℕ) → 1 ≤ divisor → min (div_ceil (size * rows) divisor) most_size ≡ joined_size size rows divisor
 unfolding joined_size
-size_most size rows divisor h = omega arith
+cut_is size rows divisor some = omega (arith, ceil_is (size * rows) divisor some)
 
 pub joined_most : (size rows divisor : ℕ) → joined_size size rows divisor ≤ most_size
 unfolding joined_size

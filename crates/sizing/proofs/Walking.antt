@@ -4,7 +4,7 @@ use native.Mathlib.Decide.{dec_lt}
 use native.Mathlib.Omega.{arith}
 use mathlib.Core.Path.{◌≡◌, refl, sym, ap, subst, ◌∙◌}
 use mathlib.Core.List.{List}
-use mathlib.Core.Logic.{◌⊎◌, inl}
+use mathlib.Core.Logic.{◌⊎◌}
 use lib.Bits.{bit_or, bit_and}
 use lib.Count.{count_trailing_zeros}
 use lib.ListN.{get_or}
@@ -16,7 +16,7 @@ use Rattle.relations.specs.declared.Joins.{Joins}
 use Rattle.relations.specs.Trees.{Subquery, join_bits}
 use Rattle.relations.proofs.Counts.{lowest_pow}
 use Rattle.relations.proofs.Connected.{subquery_range}
-use Rattle.relations.proofs.Walks.{From, from_first, none_from, lowest_whole, none_between, one_within, one_less, from_next}
+use Rattle.relations.proofs.Walks.{From, none_from, lowest_whole, none_between, one_within, one_less, from_next}
 use Rattle.subqueries.proofs.Entries.{entry_joins}
 use Rattle.sizing.specs.Worked.{join_to, most_size, joined_size, worked_size}
 use Rattle.sizing.specs.Code.{above, Waits, Waiting, Lists, Long, Right, Same, Extended, Extendable}
@@ -45,16 +45,6 @@ module _ {J : Joins} {n : ℕ} {table rows divisors near : List ℕ} {S : ℕ} {
 
   pub set_in : (0 < S) × (S < 2 ^ n) × (S < most_sets)
   set_in = let range = subquery_range J n S a.subquery in (range.0, range.1, place_in n S nine range.1)
-
-  pub extending_none : (left : ℕ) → left ≡ get_or old.waiting S 0 → Extending J n rows divisors S old old left
-  extending_none left e = record {
-    at = 0;
-    from = from_first (get_or old.waiting S 0) left e;
-    low = omega (arith, a.right.waiting.low);
-    long = a.long;
-    right = λ c w h. absurd (omega arith);
-    each = λ X. inl (record { size = refl; waiting = refl });
-  }
 
   module _ {new : Lists} {left : ℕ} (x : Extending J n rows divisors S old new left) where
     word : left < 2 ^ 64

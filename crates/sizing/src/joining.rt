@@ -10,11 +10,7 @@ pub(crate) fn joined_size(size: u32, rows: u32, divisor: u32) -> u32
     requires divisor_in_range { (1 ≤ divisor) × (divisor ≤ 1000000) }
     ensures { result ≡ joined_size size rows divisor }
 {
-    let by = divisor as u64;
-    let all = size as u64 * rows as u64;
-    let up = (all + (by - 1)) / by;
-    if up < MOST_SIZE {
-        return up as u32;
-    }
-    MOST_SIZE as u32
+    let all = u64::from(size) * u64::from(rows);
+    let up = all.div_ceil(u64::from(divisor));
+    up.min(MOST_SIZE) as u32
 }

@@ -34,12 +34,10 @@ fn begin(
     ensures { (divisors : List ℕ) → Begun joins (joins.count + 1) rows.now divisors
         (lists_of sizes.old waiting.old) (lists_of sizes.new waiting.new) (joins.count + 1) }
 {
-    let mut r = 0;
-    while r <= joins.count {
+    for r in 0..=joins.count {
         let set = single(r);
         sizes[set] = rows[r];
         waiting[set] = near[r] & above(joins.count + 1, set);
-        r += 1;
     }
 }
 
@@ -67,7 +65,7 @@ fn extend(
     while left != 0 {
         let r = usize::trailing_zeros(left) as usize;
         let one = single(r);
-        left = left - one;
+        left -= one;
         let more = set + one;
         let e = usize::trailing_zeros(joins_in(table[more]) - held) as usize;
         sizes[more] = joined_size(size, rows[r], divisors[e]);
@@ -89,10 +87,9 @@ pub fn work_out(
     ensures { sizes.new ≡ worked_sizes joins (joins.count + 1) rows.now divisors.now }
 {
     let near = neighbours(joins);
-    let mut waiting = [0usize; SETS];
+    let mut waiting = [0; SETS];
     begin(joins, rows, &near, &mut waiting, &mut *sizes);
-    let mut set = 1;
-    while set < single(joins.count + 1) {
+    for set in 1..single(joins.count + 1) {
         if is_connected(table[set]) {
             extend(
                 joins.count + 1,
@@ -104,9 +101,6 @@ pub fn work_out(
                 &mut *sizes,
                 set,
             );
-            set += 1;
-            continue;
         }
-        set += 1;
     }
 }

@@ -17,10 +17,9 @@ use lib.Pow.{pow_mono}
 use Rattle.relations.specs.declared.Joins.{Joins}
 use Rattle.relations.specs.Growth.{first, second, inside}
 use Rattle.relations.specs.Trees.{joins_in, join_bits}
-use Rattle.relations.specs.Code.{EndsOf, ends_of, or_none, most_sets}
+use Rattle.relations.specs.Code.{Listed, ends_of, or_none, most_sets}
 use Rattle.relations.proofs.Bits.{bit_high, bit_none}
 use Rattle.relations.proofs.Counts.{ones_more, ones_zero}
-use Rattle.relations.proofs.Listed.{listed_done}
 use Rattle.relations.proofs.JoinBits.{joins_next, bits_next}
 use Rattle.relations.proofs.Loops.{ends_in}
 use Rattle.subqueries.specs.Table.{entry, TableOf, arrives, arriving, Upper, Roomy}
@@ -77,31 +76,31 @@ weighed true w = refl
 weighed false w = refl
 
 joins_with :
-    (J : Joins) (l : List ℕ) (r T m : ℕ) → T < 2 ^ r → EndsOf J l m →
+    (J : Joins) (l : List ℕ) (r T m : ℕ) → T < 2 ^ r → ((i : ℕ) → i < m → get_or l i 0 ≡ ends_of J i) →
     256 * joins_in J (2 ^ r + T) m + join_bits J (2 ^ r + T) m ≡ (256 * joins_in J T m + join_bits J T m) + arriving l (2 ^ r) T m
 unfolding joins_in join_bits arriving
 joins_with J l r T zero h e = refl
 joins_with J l r T (suc m) h e =
     omega (
       arith,
-      joins_with J l r T m h (listed_done l (ends_of J) 8 (suc m) m e (omega arith)),
+      joins_with J l r T m h (λ i b. e i (omega arith)),
       next (2 ^ r + T),
       next T,
       both,
     )
   where
     both : or_none (inside J (2 ^ r + T) m) (256 + 2 ^ m) ≡ or_none (inside J T m) (256 + 2 ^ m) + or_none (arrives (2 ^ r) (get_or l m 0) T) (256 + 2 ^ m)
-    both = rw (← ends_in J (2 ^ r + T) m, ← ends_in J T m, e.each m (omega arith)) (within_with r T (ends_of J m) (256 + 2 ^ m) h)
+    both = rw (← ends_in J (2 ^ r + T) m, ← ends_in J T m, e m (omega arith)) (within_with r T (ends_of J m) (256 + 2 ^ m) h)
 
     next : (S : ℕ) → 256 * joins_in J S (suc m) + join_bits J S (suc m) ≡ (256 * joins_in J S m + join_bits J S m) + or_none (inside J S m) (256 + 2 ^ m)
     next S = omega (arith, joins_next J S m, bits_next J S m, weighed (inside J S m) (2 ^ m))
 
 entry_with :
-    (J : Joins) (l : List ℕ) (r T : ℕ) → T < 2 ^ r → EndsOf J l J.count → entry J (2 ^ r + T) ≡ entry J T + (65536 + arriving l (2 ^ r) T J.count)
+    (J : Joins) (l : List ℕ) (r T : ℕ) → T < 2 ^ r → Listed l (ends_of J) J.count J.count → entry J (2 ^ r + T) ≡ entry J T + (65536 + arriving l (2 ^ r) T J.count)
 unfolding entry
 entry_with J l r T h e =
     let same : 2 ^ r + T ≡ T + 2 ^ r = omega arith in
-    omega (arith, ap ones same, ones_more T r (bit_high T r r h (omega arith)), joins_with J l r T J.count h e)
+    omega (arith, ap ones same, ones_more T r (bit_high T r r h (omega arith)), joins_with J l r T J.count h e.each)
 
 -- Nothing lies in the empty set.
 outside : (J : Joins) (e w : ℕ) → or_none (inside J 0 e) w ≡ 0
@@ -122,20 +121,17 @@ pub table_none : (J : Joins) (l : List ℕ) → length l ≡ most_sets → get_o
 table_none J l h z = record { long = h; each = λ i k. let first : i ≡ 0 = omega arith in rw first (z ∙ sym (entry_none J)) }
 
 pub table_more :
-    (J : Joins) (old new l : List ℕ) (half r : ℕ) → TableOf J old (2 ^ r) → EndsOf J l J.count → half ≡ 2 ^ r →
-    Upper old new half half (λ i. get_or old i 0 + (65536 + arriving l half i J.count)) → TableOf J new (2 ^ (r + 1))
+    (J : Joins) (old new l : List ℕ) (half r : ℕ) → TableOf J old (2 ^ r) → Listed l (ends_of J) J.count J.count → half ≡ 2 ^ r →
+    Upper old new half half (λ i. get_or old i 0 + (65536 + arriving l half i (length l))) → TableOf J new (2 ^ (r + 1))
 table_more J old new l half r t e q u = record { long = u.long ∙ t.long; each = λ i k. elim (dec_lt i half) [ yes h ↦ u.lower i h ∙ t.each i (omega arith) | no h ↦ upper i k (omega arith) ] }
   where
     above : (T : ℕ) → T < half → get_or new (half + T) 0 ≡ entry J (half + T)
-    above T h = u.done T h ∙ rw (t.each T (omega arith), q) (sym (entry_with J l r T (omega arith) e))
+    above T h = u.done T h ∙ rw (t.each T (omega arith), q, e.long) (sym (entry_with J l r T (omega arith) e))
 
     upper : (i : ℕ) → i < 2 ^ (r + 1) → half ≤ i → get_or new i 0 ≡ entry J i
     upper i k h =
         let whole : half + (i - half) ≡ i = omega arith in
         rw whole at (above (i - half) (omega (arith, pow-suc 2 r, ap (λ (x : ℕ). 2 ^ x) (add-one r))))
-
-pub table_done : (J : Joins) (l : List ℕ) (r : ℕ) → TableOf J l (2 ^ r) → r ≤ J.count + 1 → J.count < r → TableOf J l (2 ^ (J.count + 1))
-table_done J l r t h k = listed_done l (entry J) most_sets (2 ^ r) (2 ^ (J.count + 1)) t (pow_mono (omega arith))
 
 pub table_roomy : (J : Joins) (l : List ℕ) (half r : ℕ) → TableOf J l (2 ^ r) → J.count ≤ 8 → r ≤ J.count → half ≡ 2 ^ r → Roomy l half 0 20
 table_roomy J l half r t few h q =

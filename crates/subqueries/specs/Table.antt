@@ -1,6 +1,6 @@
 -- What every set of relations holds, one number a set: how many relations, how many joins, and which joins. The table of all sets is made by
 -- doubling: a set with a new relation holds what the set without it holds, the relation, and the joins that lead from the set to it.
-use Rattle.std.specs.Prelude.{ℕ, zero, suc, ◌+◌, ◌-◌, ◌*◌, ◌/◌, ◌%◌, ◌^◌, ◌≤◌, ◌<◌, ◌≡◌, Bool, true, false, ◌&&◌, List, eqb, leb, ltb, length, get_or}
+use Rattle.std.specs.Prelude.{ℕ, zero, suc, ◌+◌, ◌-◌, ◌*◌, ◌/◌, ◌%◌, ◌^◌, ◌≤◌, ◌<◌, ◌≡◌, Bool, ◌&&◌, List, eqb, leb, ltb, length, get_or}
 use Rattle.std.specs.Int.Bits.{bit_and}
 use Rattle.std.specs.Int.Count.{ones}
 use Rattle.relations.specs.declared.Joins.{Joins}
@@ -24,11 +24,6 @@ pub record Tabled (J : Joins) (l : List ℕ) : Type 0 where
 -- The set of an entry holds one join fewer than relations. In a tree these are the subqueries: `connected` in proofs/.
 unfoldable pub is_connected : ℕ → Bool
 is_connected x = eqb (x / 256 % 256 + 1) (x / 65536)
-
--- One more where the test holds.
-abbrev pub tally : Bool → ℕ → ℕ
-tally true n = suc n
-tally false n = n
 
 -- The set M lies in T together with a new relation, whose mask is half, and not in T alone: the new one is M's highest, and the rest of M is in T.
 unfoldable pub arrives : ℕ → ℕ → ℕ → Bool

@@ -1,5 +1,5 @@
 // What every set of relations holds: its relations and its joins, worked out for all sets in one pass by doubling.
-ghost use Rattle.std.specs.Prelude.{◌+◌, ◌*◌, ◌/◌, ◌%◌, ◌^◌, ◌≤◌, ◌<◌, ◌≡◌, eqb, get_or};
+ghost use Rattle.std.specs.Prelude.{◌+◌, ◌*◌, ◌/◌, ◌%◌, ◌^◌, ◌≤◌, ◌<◌, ◌≡◌, eqb, length, get_or};
 ghost use Rattle.std.specs.Int.Bits.{bit_and};
 ghost use Rattle.relations.specs.Code.{Drawn, or_none};
 ghost use Rattle.subqueries.specs.Table.{TableOf, is_connected, arrives, arriving, Upper, Roomy};
@@ -16,10 +16,8 @@ fn double(table: &mut [u32; SETS], half: usize)
     requires { Roomy table.old half 0 20 }
     ensures { Upper table.old table.new half half (λ i. get_or table.old i 0 + 65536) }
 {
-    let mut set = 0;
-    while set < half {
+    for set in 0..half {
         table[half + set] = table[set] + RELATION;
-        set += 1;
     }
 }
 
@@ -35,10 +33,8 @@ fn link(table: &mut [u32; SETS], half: usize, other: u32, add: u32)
     requires { Roomy table.old half half 22 × (add < 2 ^ 22) }
     ensures { Upper table.old table.new half half (λ i. get_or table.old (half + i) 0 + or_none (eqb (bit_and i other) other) add) }
 {
-    let mut set = 0;
-    while set < half {
-        table[half + set] = table[half + set] + if_within(set as u32, other, add);
-        set += 1;
+    for set in 0..half {
+        table[half + set] += if_within(set as u32, other, add);
     }
 }
 
@@ -47,21 +43,19 @@ fn link_join(table: &mut [u32; SETS], half: usize, around: usize, add: u32)
     requires { Roomy table.old half half 22 × (add < 2 ^ 22) }
     ensures { Upper table.old table.new half half (λ i. get_or table.old (half + i) 0 + or_none (arrives half around i) add) }
 {
-    if (half <= around) & (around < 2 * half) {
+    if (half..2 * half).contains(&around) {
         link(table, half, (around - half) as u32, add);
     }
 }
 
 // The sets with a new relation, whose mask is half: one relation more, and the joins that it brings.
-fn add_relation(table: &mut [u32; SETS], ends: &[usize; 8], count: usize, half: usize)
-    requires { Roomy table.old half 0 20 × (count ≤ 8) }
-    ensures { Upper table.old table.new half half (λ i. get_or table.old i 0 + (65536 + arriving ends.now half i count)) }
+fn add_relation(table: &mut [u32; SETS], ends: &[usize], half: usize)
+    requires { Roomy table.old half 0 20 × (length ends.now ≤ 8) }
+    ensures { Upper table.old table.new half half (λ i. get_or table.old i 0 + (65536 + arriving ends.now half i (length ends.now))) }
 {
     double(table, half);
-    let mut e = 0;
-    while e < count {
-        link_join(table, half, ends[e], JOIN + single(e) as u32);
-        e += 1;
+    for (e, around) in ends.iter().enumerate() {
+        link_join(table, half, *around, JOIN + single(e) as u32);
     }
 }
 
@@ -71,11 +65,9 @@ pub fn join_table(joins: Joins) -> [u32; SETS]
     ensures { TableOf joins result (2 ^ (joins.count + 1)) }
 {
     let around = ends(joins);
-    let mut table = [0u32; SETS];
-    let mut r = 0;
-    while r <= joins.count {
-        add_relation(&mut table, &around, joins.count, single(r));
-        r += 1;
+    let mut table = [0; SETS];
+    for r in 0..=joins.count {
+        add_relation(&mut table, &around[..joins.count], single(r));
     }
     table
 }

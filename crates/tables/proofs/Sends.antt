@@ -21,7 +21,7 @@ use Rattle.query.proofs.Prices.{sending_is}
 use Rattle.routes.specs.Routes.{by_sends, fewest_sends, next_site, stops, carriage, route}
 use Rattle.routes.proofs.Sends.{none_sent, first_send}
 use Rattle.routes.proofs.Taken.{fewest, route_taken, stays_unsent}
-use Rattle.rules.specs.declared.Step.{Step}
+use Rattle.rules.specs.Machine.{Step}
 use Rattle.rules.specs.declared.Origin.{Origin}
 use Rattle.rules.specs.declared.Origin.TheVariants.{Bare, Sent}
 use Rattle.rules.specs.declared.Held.{Held}

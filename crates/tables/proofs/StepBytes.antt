@@ -6,7 +6,7 @@ use mathlib.Core.List.{List, [], ◌∷◌, ◌++◌}
 use lib.ListN.{length}
 use Rattle.rules.specs.Allowed.{most_steps, longest_plan, steps_of}
 use Rattle.tables.specs.Written.{step_bytes, plan_bytes}
-use Rattle.rules.specs.declared.Step.{Step}
+use Rattle.rules.specs.Machine.{Step}
 
 pub step_bytes_append : (xs ys : List Step) → step_bytes (xs ++ ys) ≡ step_bytes xs ++ step_bytes ys
 step_bytes_append [] ys = refl

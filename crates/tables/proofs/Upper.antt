@@ -18,7 +18,7 @@ use Rattle.query.specs.declared.Query.{Query}
 use Rattle.query.specs.Cost.{some}
 use Rattle.query.specs.Query.{Valid, relations_of, sites_of, may_join}
 use Rattle.query.specs.Prices.{join_price, indexed}
-use Rattle.rules.specs.declared.Step.{Step}
+use Rattle.rules.specs.Machine.{Step}
 use Rattle.rules.specs.declared.Origin.TheVariants.{Joined}
 use Rattle.rules.specs.declared.Held.{Held}
 use Rattle.rules.specs.Combine.{Combines}

@@ -16,7 +16,7 @@ use Rattle.tables.specs.Tables.{first_part, other_part, delivered, joined}
 use Rattle.tables.specs.Written.{sends_due, best_site, best_join, joined_steps, delivered_steps, steps_up_to, written_delivered, written_joined}
 use Rattle.tables.specs.Theorems.{WrittenIs}
 use Rattle.tables.proofs.Tables.{ones_some, ones_most, BySite, ByJoin, delivered_found, joined_found}
-use Rattle.rules.specs.declared.Step.{Step}
+use Rattle.rules.specs.Machine.{Step}
 
 module _ (combine : ℕ → ℕ → ℕ) (q : Query) (v : Valid q) where
   -- Steps that are equal for smaller subqueries with a number at k.

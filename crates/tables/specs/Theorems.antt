@@ -5,7 +5,7 @@ use Rattle.relations.specs.Trees.{Subquery}
 use Rattle.query.specs.declared.Query.{Query}
 use Rattle.query.specs.Cost.{none, some, AtMost}
 use Rattle.query.specs.Query.{Valid, relations_of}
-use Rattle.rules.specs.declared.Step.{Step}
+use Rattle.rules.specs.Machine.{Step}
 use Rattle.rules.specs.Combine.{Combines}
 use Rattle.rules.specs.Allowed.{most_steps, RunAt, AllowedAt}
 use Rattle.tables.specs.Tables.{delivered_by, delivered, joined, cheapest}

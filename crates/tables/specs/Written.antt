@@ -8,7 +8,7 @@ use Rattle.query.specs.Query.{relations_of, sites_of, home}
 use Rattle.routes.specs.Least.{lowest_at}
 use Rattle.routes.specs.Routes.{route}
 use Rattle.tables.specs.Tables.{first_part, other_part, only, by_join, by_site, delivered, joined}
-use Rattle.rules.specs.declared.Step.{Step}
+use Rattle.rules.specs.Machine.{Step}
 
 abbrev pub load_step : ℕ → Step
 load_step r = record { kind = 1; arg = r }

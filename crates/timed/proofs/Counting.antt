@@ -1,4 +1,5 @@
 -- One more solve counts one plan more, or none: each solve answers the same, whatever the one before it wrote.
+use Rattle.std.proofs.Common.{Result}
 use Prim.Native.Nat.{ℕ, ◌+◌}
 use native.Mathlib.Omega.{arith}
 use mathlib.Core.Path.{◌≡◌, refl, ap, ◌∙◌}
@@ -6,8 +7,9 @@ use mathlib.Core.List.{List}
 use mathlib.Core.Option.{none}
 use lib.ListN.{length}
 use Rattle.planner.specs.declared.Planner.{Planner}
-use Rattle.planner.specs.declared.LoadAnswer.{LoadAnswer}
-use Rattle.planner.specs.declared.SolveAnswer.{SolveAnswer}
+use Rattle.planner.specs.declared.Loaded.{Loaded}
+use Rattle.query.specs.declared.refusal.Refusal.{Refusal}
+use Rattle.solver.specs.declared.Solution.{Solution}
 use Rattle.planner.specs.State.{State}
 use Rattle.planner.specs.Load.{load}
 use Rattle.planner.specs.Solve.{Answer, found, no_route, refused, Solving, solving_of, solve, blank}
@@ -31,7 +33,7 @@ counted_none s = none_at_first (answer_in s)
 
 -- A turn, over cells enough and an output with room for the longest plan.
 module _
-    (p : Planner) (a : SolveAnswer) (n : ℕ) (out new : List ℕ) (solving : solving_of (of_solve a) new ≡ solve n out (state_of p))
+    (p : Planner) (a : Result Solution Refusal) (n : ℕ) (out new : List ℕ) (solving : solving_of (of_solve a) new ≡ solve n out (state_of p))
     (many : n ≡ ample_cells) (room : length out ≡ length blank)
   where
     as_defined : of_solve a ≡ answer_in (state_of p)
@@ -45,7 +47,7 @@ module _
 
 -- The query stands that load made of an empty planner.
 pub loaded_plans :
-    (empty p : Planner) (a : LoadAnswer) (file : List ℕ) (times r : ℕ) → state_of empty ≡ none → done_of (of_load a) p ≡ load file (state_of empty) →
+    (empty p : Planner) (a : Result Loaded Refusal) (file : List ℕ) (times r : ℕ) → state_of empty ≡ none → done_of (of_load a) p ≡ load file (state_of empty) →
     r ≡ found_by (answer_in (state_of p)) times → r ≡ plans_found file times
 unfolding plans_found
 loaded_plans empty p a file times r e done h = rw (← e, ← done) h

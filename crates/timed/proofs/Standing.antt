@@ -1,4 +1,5 @@
 -- One load more leaves what stands after one load more: each is made in the state that the one before left.
+use Rattle.std.proofs.Common.{Result}
 use Prim.Native.Nat.{ℕ, ◌+◌}
 use native.Mathlib.Numerals.{unary_clauses}
 use mathlib.Core.Path.{◌≡◌, ap, ◌∙◌}
@@ -6,7 +7,8 @@ use Rattle.decoder.specs.declared.Form.{Form}
 use mathlib.Core.List.{List}
 use mathlib.Core.Option.{none}
 use Rattle.planner.specs.declared.Planner.{Planner}
-use Rattle.planner.specs.declared.LoadAnswer.{LoadAnswer}
+use Rattle.planner.specs.declared.Loaded.{Loaded}
+use Rattle.query.specs.declared.refusal.Refusal.{Refusal}
 use Rattle.planner.specs.State.{State}
 use Rattle.planner.specs.Done.{Done}
 use Rattle.planner.specs.Load.{Answer, load_by}
@@ -15,7 +17,7 @@ use Rattle.timed.specs.Found.{found_by, answer_in}
 use Rattle.timed.specs.Loads.{standing, plan_after}
 
 -- What a load leaves.
-pub loaded_next : (p next : Planner) (a : LoadAnswer) (form : Form) (file : List ℕ) → done_of (of_load a) next ≡ load_by form file (state_of p) → state_of next ≡ (load_by form file (state_of p)).next
+pub loaded_next : (p next : Planner) (a : Result Loaded Refusal) (form : Form) (file : List ℕ) → done_of (of_load a) next ≡ load_by form file (state_of p) → state_of next ≡ (load_by form file (state_of p)).next
 loaded_next p next a form file done = ap (λ (x : Done Answer). x.next) done
 
 -- Before the first, after one more, and after all.

@@ -8,20 +8,15 @@ ghost use Rattle.timed.specs.Found.{found_by, answer_in, plans_found};
 ghost use Rattle.timed.specs.Loads.{plan_after};
 
 use decoder::Form;
-use planner::{CELLS, LONGEST_PLAN, Planner, SolveAnswer};
+use planner::{CELLS, LONGEST_PLAN, Planner, Refusal, Solution};
 
 // 1 where a plan was found, else 0.
-fn found(a: SolveAnswer) -> u64
+fn found(a: Result<Solution, Refusal>) -> u64
     ensures { (result ≡ found_by (of_solve a) 1) × (result ≤ 1) }
 {
     match a {
-        SolveAnswer::Found {
-            cost: _,
-            length: _,
-            trials: _,
-        } => 1,
-        SolveAnswer::NoRoute { trials: _ } => 0,
-        SolveAnswer::Refused(_) => 0,
+        Ok(Solution::Found { .. }) => 1,
+        _ => 0,
     }
 }
 

@@ -1,20 +1,18 @@
 -- Each turn lays one relation more.
 use native.Mathlib.Omega.{arith}
 use borrow.Author.Rules.{rules}
-use Rattle.board.proofs.LaidSteps.{relations_none, relations_long, relations_more, relations_all}
+use Rattle.query.specs.Query.{home}
+use Rattle.board.proofs.Here.{home_low}
+use Rattle.board.proofs.LaidSteps.{relations_more}
 use Rattle.board.proofs.laying.lay_relations.Goals as goal
 
-pub loop-r-init : goal.loop-r-init
-loop-r-init c = (search rules, relations_none _ _ _ _)
-
 pub single-homes-requires : goal.single-homes-requires
-single-homes-requires c = omega (arith, c.wide.ensures.0, c.requires.places c.loop-r.r (search rules))
+unfolding home
+single-homes-requires c = omega (arith, home_low _ c.requires c.loop-r.r c.loop-r-test.true)
 
 pub spare_relation-requires : goal.spare_relation-requires
-spare_relation-requires c = (search (rules, relations_long), (search rules, (search rules, c.requires.places c.loop-r.r (search rules))))
+spare_relation-requires c = (search rules, (search rules, home_low _ c.requires c.loop-r.r c.loop-r-test.true))
 
 pub loop-r-preserved : goal.loop-r-preserved
-loop-r-preserved c = (search rules, relations_more _ _ _ _ _ _ _ _ _ _ c.loop-r.invariant.1 (search rules) c.requires.lengths.0 c.wide.ensures.0 c.single-homes.ensures (search rules) c.spare_relation.ensures)
-
-pub returns : goal.returns
-returns c = search (rules, relations_all)
+unfolding home
+loop-r-preserved c = relations_more _ _ _ _ _ _ c.loop-r.invariant (search rules) (search rules) (rw c.from.ensures at c.single-homes.ensures) c.spare_relation.ensures

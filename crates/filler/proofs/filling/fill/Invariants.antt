@@ -1,5 +1,5 @@
 -- `filling::fill` meets its contract: each turn fills the cells of one set more, and the sets below the next one stay filled. Assumes nothing.
-use Prim.Native.Nat.{ℕ, ◌+◌, ◌-◌, ◌≤◌, ◌<◌}
+use Prim.Native.Nat.{ℕ, ◌+◌, ◌≤◌, ◌<◌}
 use mathlib.Core.Path.{◌≡◌}
 use mathlib.Core.List.{List}
 use Rattle.relations.specs.Code.{most_sets}
@@ -17,8 +17,4 @@ Reached board sizes table before old end places work tried next set =
     (q : Query) → Fillable q (lent board sizes before old) table → (end ≡ all (relations_of q)) × Going ◌+◌ q old work places set next tried
 
 abbrev pub invariant-loop-set : goal.invariant-loop-set
-invariant-loop-set l =
-    (l.set ≤ l.end) × ((0 < l.set) × ((l.end < most_sets) × Reached l.board l.sizes l.table l.initial.places l.initial.work l.end l.places l.work l.tried l.next l.set))
-
-abbrev pub decreases-loop-set : goal.decreases-loop-set
-decreases-loop-set l = l.end - l.set
+invariant-loop-set l = ((1 ≤ l.end) × (l.end < most_sets)) × Reached l.board l.sizes l.table l.initial.places l.initial.work l.end l.places l.work l.tried l.next l.set

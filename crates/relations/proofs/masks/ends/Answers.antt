@@ -1,13 +1,14 @@
--- The pairs of the first relations and the second ones.
+-- Each place has its join's relations below the count, and the empty set from there on.
+use Prim.Native.Nat.{ℕ}
+use lib.Dec.{ltb}
 use borrow.Author.Rules.{rules}
-use Rattle.relations.specs.Code.{ends_of}
-use Rattle.relations.proofs.Drawing.{ends_low}
+use native.Mathlib.Omega.{arith}
+use Rattle.relations.specs.Sets.{put}
+use Rattle.relations.specs.Code.{ends_of, or_none}
+use Rattle.relations.proofs.Listed.{listed_first}
+use Rattle.relations.proofs.Made.{made_listed}
 use Rattle.relations.proofs.masks.ends.Goals as goal
 
-pub pairs-requires : goal.pairs-requires
-unfolding ends_of
-pairs-requires c = let d = c.requires in record { few = d.few; ends_low = ends_low _ d }
-
 pub returns : goal.returns
-unfolding ends_of
-returns c = search rules
+unfolding ends_of put
+returns c = listed_first _ _ _ _ 8 (made_listed _ (λ (i : ℕ). or_none (ltb i c.args.joins.count) (ends_of c.args.joins i)) _ (λ i y q k. (search rules, search rules)) _ _ c.from_fn.ensures.items) (omega arith) c.requires.few

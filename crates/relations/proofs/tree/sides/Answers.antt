@@ -1,21 +1,21 @@
--- The loop has stored the side of every join below e.
-use mathlib.Core.Path.{refl}
+-- Each turn stores the side of join e.
+-- Growth may start from either relation of the join, so that the side of the second one is refused where it is stored, where it is wrong, and not at the call.
 use native.Mathlib.Omega.{arith}
-use borrow.Author.Rules.{rules}
-use Rattle.relations.proofs.Listed.{listed_none, listed_next, listed_done}
-use Rattle.relations.proofs.Drawing.{side_asks, side_is}
+use Rattle.relations.specs.Trees.{part, side}
+use Rattle.relations.proofs.Listed.{listed_next}
+use Rattle.relations.proofs.Drawing.{single_growable}
 use Rattle.relations.proofs.tree.sides.Goals as goal
 
-pub loop-e-init : goal.loop-e-init
-loop-e-init c = (record { drawn = c.requires; every_is = c.whole-every.ensures; around_are = c.ends-around.ensures; from_are = c.firsts-from.ensures }, (search rules, listed_none _ _ _ refl))
-
 pub grow-requires : goal.grow-requires
-grow-requires c = (_, side_asks _ _ _ _ c.loop-e.invariant.0 _ c.loop-e-test.true)
+grow-requires c =
+    let d = c.requires in
+    let e = c.loop-e.e in
+    (_, single_growable _ _ _ _ _ d c.ends-around.ensures (omega (arith, d.first_in e c.loop-e-test.true, d.second_in e c.loop-e-test.true)) c.whole-every.ensures c.single-from.ensures)
 
 pub loop-e-preserved : goal.loop-e-preserved
+unfolding side part
 loop-e-preserved c =
-    let h = c.loop-e-test.true in let s = c.loop-e.invariant.0 in
-    (s, (search rules, listed_next _ _ _ _ _ c.loop-e.invariant.1.1 (omega (arith, s.drawn.few, h)) (side_is _ _ _ _ s _ h _ (c.grow.ensures _ (side_asks _ _ _ _ s _ h)))))
-
-pub returns : goal.returns
-returns c = listed_done _ _ _ _ _ c.loop-e.invariant.1.1 (omega (arith, c.loop-e-test.false))
+    let d = c.requires in
+    let e = c.loop-e.e in
+    let grown = c.grow.ensures _ (single_growable _ _ _ _ _ d c.ends-around.ensures (omega (arith, d.first_in e c.loop-e-test.true, d.second_in e c.loop-e-test.true)) c.whole-every.ensures c.single-from.ensures) in
+    listed_next _ _ _ _ _ c.loop-e.invariant (omega (arith, d.few, c.loop-e-test.true)) (cc)

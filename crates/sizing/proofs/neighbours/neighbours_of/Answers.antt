@@ -1,13 +1,14 @@
--- `neighbours_of` adds what each join brings.
+-- The ends bring their neighbours one after another.
+use Prim.Native.Nat.{ℕ}
+use mathlib.Core.Path.{◌≡◌, ◌∙◌}
 use borrow.Author.Rules.{rules}
-use Rattle.sizing.proofs.Turns.{near_none, near_more, near_done}
+use lib.Bits.{bit_or}
+use Rattle.std.specs.List.{fold}
+use Rattle.sizing.specs.Code.{other_end}
+use Rattle.sizing.proofs.Turns.{near_folded}
 use Rattle.sizing.proofs.neighbours.neighbours_of.Goals as goal
 
-pub loop-e-init : goal.loop-e-init
-loop-e-init c = (search rules, search (rules, near_none))
-
-pub loop-e-preserved : goal.loop-e-preserved
-loop-e-preserved c = (search rules, search (rules, near_more))
-
 pub returns : goal.returns
-returns c = search (rules, near_done)
+returns c =
+    let all : c.fold.result ≡ fold (λ (near M : ℕ). bit_or near (other_end M c.args.r)) 0 c.args.ends.now = search rules in
+    all ∙ near_folded c.args.r c.args.ends.now

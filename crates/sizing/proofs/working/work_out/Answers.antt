@@ -1,9 +1,11 @@
 -- `work_out` goes on from every subquery, in ascending number.
+-- A turn is right at any set of the relations, so that a loop which leaves some out is refused at the return, where it is wrong, and not in the loop.
 use mathlib.Core.Path.{refl}
 use native.Mathlib.Omega.{arith}
-use Rattle.sizing.proofs.Beginning.{place_scaled}
-use Rattle.sizing.proofs.Passing.{standing, drawn_tabled, zeros_long, startable, started, set_place, extendable, goes_on, passes, worked_out}
+use lib.Pow.{pow_pos}
+use Rattle.sizing.proofs.Passing.{standing, drawn_tabled, zeros_long, startable, started, below_all, set_place, extendable, goes_on, passes, worked_out}
 use Rattle.sizing.proofs.working.work_out.Goals as goal
+use Rattle.sizing.proofs.working.work_out.Goals.{then-is_connected, else-is_connected}
 
 pub neighbours-near-requires : goal.neighbours-near-requires
 neighbours-near-requires c = drawn_tabled _ _ c.requires.tabled
@@ -11,40 +13,33 @@ neighbours-near-requires c = drawn_tabled _ _ c.requires.tabled
 pub begin-requires : goal.begin-requires
 begin-requires c =
     let p = c.requires in
-    startable _ _ _ _ _ (standing _ _ _ _ _ p.tabled p.counts.0 p.counts.1 c.neighbours-near.ensures) _ (zeros_long _ p.sizes_are_zero refl)
+    startable _ _ _ _ _ (standing p.tabled p.counts c.neighbours-near.ensures) _ (zeros_long _ p.sizes_are_zero refl)
 
 pub loop-set-init : goal.loop-set-init
 loop-set-init c =
     let p = c.requires in
-    let s = standing _ _ _ _ _ p.tabled p.counts.0 p.counts.1 c.neighbours-near.ensures in
-    (s, started _ _ _ _ _ s _ _ (c.begin.ensures _) p.sizes_are_zero)
-
-pub offset_bounds-table-set : goal.offset_bounds-table-set
-offset_bounds-table-set c = place_scaled _ _ (set_place _ _ _ _ _ c.loop-set.invariant.0 _ _ c.loop-set-test.true c.single.ensures) (omega arith)
+    started _ _ _ _ _ (standing p.tabled p.counts c.neighbours-near.ensures) _ _ (c.begin.ensures _) p.sizes_are_zero
 
 pub bounds-table-set : goal.bounds-table-set
-bounds-table-set c = set_place _ _ _ _ _ c.loop-set.invariant.0 _ _ c.loop-set-test.true c.single.ensures
+bounds-table-set c =
+    let p = c.requires in
+    set_place _ _ _ _ _ (standing p.tabled p.counts c.neighbours-near.ensures) _ (below_all _ _ _ _ c.loop-set-test.true c.single-set-end.ensures (omega arith))
 
 pub extend-requires : goal.extend-requires
-extend-requires c = (_, extendable _ _ _ _ _ c.loop-set.invariant.0 _ _ _ c.loop-set-test.true c.single.ensures c.loop-set.invariant.1.1 _ c.is_connected.ensures c.if-is_connected.true)
-
-pub loop-set-preserved-then-is_connected : goal.loop-set-preserved-then-is_connected
-loop-set-preserved-then-is_connected c = (
-  c.loop-set.invariant.0,
-  (
-    omega (arith, c.loop-set-test.true, c.single.ensures),
-    goes_on _ _ _ _ _ c.loop-set.invariant.0 _ _ _ c.loop-set-test.true c.single.ensures c.loop-set.invariant.1.1 _ c.is_connected.ensures _ c.if-is_connected.true (c.extend.ensures _),
-  ),
-)
+extend-requires c =
+    let p = c.requires in
+    (_, extendable _ _ _ _ _ (standing p.tabled p.counts c.neighbours-near.ensures) _ _ (below_all _ _ _ _ c.loop-set-test.true c.single-set-end.ensures (omega arith)) c.loop-set.invariant _ c.is_connected.ensures c.if-is_connected.true)
 
 pub loop-set-preserved : goal.loop-set-preserved
-loop-set-preserved c = (
-  c.loop-set.invariant.0,
-  (
-    omega (arith, c.loop-set-test.true, c.single.ensures),
-    passes _ _ _ _ _ c.loop-set.invariant.0 _ _ _ c.loop-set-test.true c.single.ensures c.loop-set.invariant.1.1 _ c.is_connected.ensures c.if-is_connected.false,
-  ),
-)
+loop-set-preserved c =
+    let p = c.requires in
+    let s = standing p.tabled p.counts c.neighbours-near.ensures in
+    elim c.if-is_connected.branch [
+      | then-is_connected w ↦ rw (w.sizes-is, w.waiting-is) (goes_on _ _ _ _ _ s _ _ (below_all _ _ _ _ c.loop-set-test.true c.single-set-end.ensures (omega arith)) c.loop-set.invariant _ c.is_connected.ensures _ w.if-is_connected.true (w.extend.ensures _))
+      | else-is_connected w ↦ rw (w.sizes-is, w.waiting-is) (passes _ _ _ _ _ s _ _ (below_all _ _ _ _ c.loop-set-test.true c.single-set-end.ensures (omega arith)) c.loop-set.invariant _ c.is_connected.ensures w.if-is_connected.false)
+    ]
 
 pub returns : goal.returns
-returns c = worked_out _ _ _ _ _ c.loop-set.invariant.0 _ _ _ c.loop-set-test.false c.single.ensures c.loop-set.invariant.1.0 c.loop-set.invariant.1.1
+returns c =
+    let p = c.requires in
+    worked_out _ _ _ _ _ (standing p.tabled p.counts c.neighbours-near.ensures) _ _ (omega (arith, pow_pos)) c.loop-set.invariant

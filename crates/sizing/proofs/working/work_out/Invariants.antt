@@ -1,13 +1,8 @@
 -- `work_out` goes on from every subquery, in ascending number.
-use Prim.Native.Nat.{◌+◌, ◌-◌, ◌^◌, ◌≤◌}
+use Prim.Native.Nat.{◌+◌}
 use Rattle.sizing.specs.Code.{lists_of}
 use Rattle.sizing.proofs.Reaching.{Reached}
-use Rattle.sizing.proofs.Passing.{Standing}
 use Rattle.sizing.proofs.working.work_out.Given as goal
 
 abbrev pub invariant-loop-set : goal.invariant-loop-set
-invariant-loop-set l =
-    Standing l.joins l.table l.rows l.divisors l.near × ((l.set ≤ 2 ^ (l.joins.count + 1)) × Reached l.joins (l.joins.count + 1) l.rows l.divisors (lists_of l.sizes l.waiting) l.set)
-
-abbrev pub decreases-loop-set : goal.decreases-loop-set
-decreases-loop-set l = 2 ^ (l.joins.count + 1) - l.set
+invariant-loop-set l = Reached l.joins (l.joins.count + 1) l.rows l.divisors (lists_of l.sizes l.waiting) l.set

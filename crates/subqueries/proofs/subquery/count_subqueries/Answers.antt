@@ -1,17 +1,18 @@
--- The loop has counted the subqueries below the set that it is at.
+-- The entries that pass the test are those of the subqueries.
+use mathlib.Core.Path.{◌≡◌, ◌∙◌}
+use native.Mathlib.Omega.{arith}
 use borrow.Author.Rules.{rules}
+use lib.ListN.{take}
+use Rattle.std.specs.List.{count_by}
 use Rattle.relations.proofs.Loops.{few_sets}
-use Rattle.subqueries.proofs.Counting.{subqueries_none, subqueries_more, subqueries_done}
+use Rattle.subqueries.specs.Table.{is_connected}
+use Rattle.subqueries.proofs.Counting.{counted}
 use Rattle.subqueries.proofs.subquery.count_subqueries.Goals as goal
 
-pub loop-set-init : goal.loop-set-init
-loop-set-init c = (search rules, (search (rules, few_sets), (search rules, (search (rules, subqueries_none), search rules))))
-
-pub loop-set-preserved : goal.loop-set-preserved
-loop-set-preserved c =
-    let inv = c.loop-set.invariant in
-    let more = subqueries_more _ _ _ _ _ _ _ inv.1.1.1.1 inv.1.1.1.0 c.is_connected.ensures c.tally-n.ensures.0 (search rules) c.single.ensures in
-    (search rules, (search rules, (search rules, (more, search rules))))
+pub shared_ref_as_front-sets : goal.shared_ref_as_front-sets
+shared_ref_as_front-sets c = omega (arith, c.single.ensures, few_sets c.args.joins.count c.requires.few)
 
 pub returns : goal.returns
-returns c = search (rules, subqueries_done)
+returns c =
+    let passing : c.count.result ≡ count_by is_connected (take c.single.result c.args.table.now) = search rules in
+    passing ∙ rw c.single.ensures (counted _ _ c.requires _ (omega arith))

@@ -1,5 +1,5 @@
 -- Each turn adds to one entry of the upper half, which no turn before it changed.
-use Prim.Native.Nat.{◌+◌, ◌-◌, ◌≤◌}
+use Prim.Native.Nat.{◌+◌}
 use lib.Bits.{bit_and}
 use lib.Dec.{eqb}
 use lib.ListN.{get_or}
@@ -9,7 +9,4 @@ use Rattle.subqueries.proofs.table.link.Given as goal
 
 abbrev pub invariant-loop-set : goal.invariant-loop-set
 invariant-loop-set l =
-    (l.set ≤ l.half) × Upper l.initial.table l.table l.half l.set (λ i. get_or l.initial.table (l.half + i) 0 + or_none (eqb (bit_and i l.other) l.other) l.add)
-
-abbrev pub decreases-loop-set : goal.decreases-loop-set
-decreases-loop-set l = l.half - l.set
+    Upper l.initial.table l.table l.half l.set (λ i. get_or l.initial.table (l.half + i) 0 + or_none (eqb (bit_and i l.other) l.other) l.add)
