@@ -1,7 +1,9 @@
 -- What a listing says, as rule 10.2 has it: a line for the answer, and one for each step.
-use Rattle.std.specs.Prelude.{ℕ, zero, suc, ◌==◌, if◌then◌else◌, List, [], ◌∷◌, ◌++◌, codes, drop, get_or}
+use Rattle.std.specs.Prelude.{ℕ, zero, suc, ◌==◌, if◌then◌else◌, List, [], ◌∷◌, ◌++◌, codes, drop, get_or, Option, Some, None, Result, Ok, Err}
 use Rattle.std.specs.Fmt.{decimal}
-use Rattle.planner.specs.declared.SolveAnswer.{SolveAnswer}
+use Rattle.planner.specs.declared.Refusal.{Refusal}
+use Rattle.planner.specs.declared.Solution.{Solution}
+use Rattle.planner.specs.declared.Solution.TheVariants.{Found, NoRoute}
 use Rattle.plan.specs.declared.listing.Listing.{Listing}
 
 -- `load 0`, `send 2`, `join 1`
@@ -24,10 +26,11 @@ plan_text c t plan =
     codes "plan " ++ (decimal (get_or plan 0 0) ++ (codes " cost " ++ (decimal c ++ (codes " trials " ++ (decimal t ++ (codes "\n" ++
     steps_text (get_or plan 0 0) (drop 1 plan)))))))
 
-abbrev pub text_of : SolveAnswer → List ℕ → List ℕ
-text_of (SolveAnswer.Found c l t) output = plan_text c.0 t output
-text_of (SolveAnswer.NoRoute t) output = codes "no route trials " ++ decimal t ++ codes "\n"
-text_of (SolveAnswer.Refused k) output = codes "refused " ++ decimal k ++ codes "\n"
+-- A refusal tells its own line.
+abbrev pub text_of : Result Solution Refusal → List ℕ → Option (List ℕ)
+text_of (Ok (Found c l t)) output = Some (plan_text c.0 t output)
+text_of (Ok (NoRoute t)) output = Some (codes "no route trials " ++ decimal t ++ codes "\n")
+text_of (Err r) output = None
 
-abbrev pub text : Listing → List ℕ
+abbrev pub text : Listing → Option (List ℕ)
 text l = text_of l.answer l.output

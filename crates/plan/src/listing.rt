@@ -1,17 +1,15 @@
 // The listing of a query file's answer, as rule 10.2 has it: in decimal, a line for the answer and one for each step.
-// What it says is `text`.
 ghost use Rattle.std.specs.Prelude.{◌≡◌, Some};
-ghost use Rattle.planner.specs.Code.{state_of, Sound};
-ghost use Rattle.plan.specs.Lines.{lines, lines_solved, lines_of};
+ghost use Rattle.plan.specs.Lines.{lines, lines_of};
 ghost use Rattle.plan.specs.Text.{step_text, steps_text, text};
 
-use planner::{CELLS, LONGEST_PLAN, LoadAnswer, Planner, SolveAnswer};
+use planner::{CELLS, LONGEST_PLAN, Refusal, Solution};
 use std::fmt;
 
 // What is listed: the answer, and the output that a plan stands in.
 #[derive(Clone, Copy)]
 pub(crate) struct Listing {
-    answer: SolveAnswer,
+    answer: Result<Solution, Refusal>,
     output: [u8; LONGEST_PLAN],
 }
 
@@ -61,17 +59,19 @@ impl fmt::Display for Steps<'_> {
 
 // `plan 4 cost 21 trials 3` and the steps, `no route trials 3` or `refused 4`.
 impl fmt::Display for Listing {
-    ghost output = { λ l. Some (text l) };
+    ghost output = { text };
 
     fn fmt<W: fmt::Write>(&self, f: &mut fmt::Formatter<W>) -> fmt::Result {
         match self.answer {
-            SolveAnswer::Refused(k) => writeln!(f, "refused {k}"),
-            SolveAnswer::NoRoute { trials } => writeln!(f, "no route trials {trials}"),
-            SolveAnswer::Found {
-                cost,
-                length: _,
-                trials,
-            } => {
+            Err(refusal) => writeln!(f, "{refusal}"),
+            Ok(Solution::NoRoute { trials }) => writeln!(f, "no route trials {trials}"),
+            Ok(
+                Solution::Found {
+                    cost,
+                    length: _,
+                    trials,
+                },
+            ) => {
                 let (count, cost) = (self.output[0], cost.0);
                 let steps = Steps {
                     count,
@@ -83,29 +83,15 @@ impl fmt::Display for Listing {
     }
 }
 
-// Solves the standing query.
-fn solved(p: Planner) -> Listing
-    requires { Sound p }
-    ensures { lines_of result ≡ lines_solved (state_of p) }
-{
-    let mut output = [0u8; LONGEST_PLAN];
-    let answer = planner::solve(p, &mut [0u64; CELLS], &mut output);
-    Listing { answer, output }
-}
-
 // The cheapest plan of a query file, no route, or the refusal.
 pub(crate) fn list(file: &[u8]) -> Listing
     ensures { lines_of result ≡ lines file.now }
 {
+    let mut output = [0u8; LONGEST_PLAN];
     let loaded = planner::load(planner::empty(), file);
-    match loaded.answer {
-        LoadAnswer::Refused(k) => Listing {
-            answer: SolveAnswer::Refused(k),
-            output: [0u8; LONGEST_PLAN],
-        },
-        LoadAnswer::Loaded {
-            relations: _,
-            subqueries: _,
-        } => solved(loaded.planner),
-    }
+    let answer = match loaded.answer {
+        Ok(_) => planner::solve(loaded.planner, &mut [0u64; CELLS], &mut output),
+        Err(refusal) => Err(refusal),
+    };
+    Listing { answer, output }
 }
