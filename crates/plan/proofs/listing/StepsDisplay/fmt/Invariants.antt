@@ -10,4 +10,4 @@ abbrev pub invariant-loop-step : goal.invariant-loop-step
 invariant-loop-step g l =
     (chunks_exact_size (take_source l.step-iterator) ≡ 2)
     × (IsPlainFormatter l.initial.f → (done : List ℕ) × HasWritten g.W.Write.write_str_gives l.initial.f done l.f
-    × (done ++ steps_text (take_count l.step-iterator) (chunks_exact_rest (take_source l.step-iterator)) ≡ steps_text (take_count l.initial.step-iterator) (chunks_exact_rest (take_source l.initial.step-iterator))))
+    × (done ++ steps_text (take_count l.step-iterator) (chunks_exact_rest (take_source l.step-iterator)) ≡ steps_text l.self.count l.self.bytes.now))
