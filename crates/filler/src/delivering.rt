@@ -17,13 +17,15 @@ fn store(work: &mut [u64], row: &[u64; 8], at: usize, sites: usize)
     requires { ((1 ≤ sites) × (at ≤ most_cells)) × (at + reach sites ≤ length work.old) }
     ensures { Stored work.old work.new at (λ (t : ℕ). get_or row.now t 0) (reach sites) }
 {
+    // With `copy_from_slice` a solve takes 1 to 4 % longer.
     for t in (0..reach(sites)).step_by(2) {
         work[at + t] = row[t];
         work[at + t + 1] = row[t + 1];
     }
 }
 
-// The cells of a subquery from what it has cost at each site where it can start from.
+// The cells of a subquery from what it has cost at each site where it can start from. Whether every line is direct is a fact on the board, and `fill` asks
+// it once for all subqueries. Each row is stored where it is made, so that it is not moved before.
 pub(crate) fn deliver(
     work: &mut [u64],
     board: &[u64; BOARD],

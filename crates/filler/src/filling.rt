@@ -16,11 +16,12 @@ use relations::{SETS, whole};
 use sender::is_direct;
 use subqueries::{is_connected, joins_in};
 
-// Fills the cells of one subquery from a place on, its joins given as bits: none for one relation.
-fn fill_set<'a>(
-    board: &'a [u64; BOARD],
-    sizes: &'a [u32; SETS],
-    places: &'a [u32; SETS],
+// Fills the cells of one subquery from a place on, its joins given as bits: none for one relation. The places and the work area are written between two
+// subqueries, so that what the trials read is put together here.
+fn fill_set(
+    board: &[u64; BOARD],
+    sizes: &[u32; SETS],
+    places: &[u32; SETS],
     work: &mut [u64],
     set: usize,
     joins: usize,
@@ -32,22 +33,22 @@ fn fill_set<'a>(
         (start_in ◌+◌ (lent board.now sizes.now places.now work.old) joins set) r ×
         Stored work.old work.new at (λ (t : ℕ). get_or r t 0) (reach (sites_at board.now))) }
 {
-    let t = Tables {
+    let tables = Tables {
         board,
         sizes,
         places,
         work: &*work,
     };
-    let row = t.start_row(set, joins);
-    let size = t.size_of(set);
+    let row = tables.start_row(set, joins);
+    let size = tables.size_of(set);
     deliver(&mut *work, board, row, size, at, direct);
 }
 
 // Fills the cells of every subquery but the whole query, notes where the first of each stands, and counts the joins in all of them.
-pub fn fill<'a>(
-    board: &'a [u64; BOARD],
-    sizes: &'a [u32; SETS],
-    table: &'a [u32; SETS],
+pub fn fill(
+    board: &[u64; BOARD],
+    sizes: &[u32; SETS],
+    table: &[u32; SETS],
     places: &mut [u32; SETS],
     work: &mut [u64],
 ) -> u64
@@ -75,7 +76,7 @@ pub fn fill<'a>(
             );
             places[set] = next as u32;
             next += sites;
-            tried += u64::from(usize::count_ones(set)) - 1;
+            tried += u64::from(set.count_ones()) - 1;
         }
     }
     tried

@@ -10,7 +10,7 @@ use crate::trials::Tables;
 use board::{NONE, lesser, side_at, spared_row};
 use relations::{Parts, split};
 
-impl<'a> Tables<'a> {
+impl Tables<'_> {
     // The row with the trials of one split where they are less.
     fn try_lanes<const LANES: usize>(self, row: &mut [u64; 8], parts: Parts, spared: usize)
         requires { (Marked row.old × (LANES ≤ 8)) × ((k : ℕ) → k < LANES → Triable (lent_of self) parts.first parts.second spared k) }
@@ -29,10 +29,10 @@ impl<'a> Tables<'a> {
         let mut row = [NONE; 8];
         let mut left = joins;
         while left != 0 {
-            let e = usize::trailing_zeros(left) as usize;
+            let e = left.trailing_zeros() as usize;
             let parts = split(set, side_at(self.board, e));
             self.try_lanes::<LANES>(&mut row, parts, spared_row(parts, e));
-            left = left & (left - 1);
+            left &= left - 1;
         }
         row
     }

@@ -5,7 +5,7 @@ ghost use Rattle.filler.specs.Cells.{place_in, reach};
 
 use crate::trials::Tables;
 
-impl<'a> Tables<'a> {
+impl Tables<'_> {
     // The place of a subquery's cell at a site, by the places of the first cells.
     pub fn place(self, set: usize, site: usize) -> usize
         requires { (set < most_sets) × (site < 8) }
@@ -15,7 +15,7 @@ impl<'a> Tables<'a> {
     }
 }
 
-// The lanes of a row that the loops go over, two at a time up to four sites, else all eight.
+// The lanes of a row that the loops go over: in pairs up to four sites, else all eight.
 pub(crate) fn reach(sites: usize) -> usize
     requires { 1 ≤ sites }
     ensures { result ≡ reach sites }

@@ -25,7 +25,7 @@ fn bare_row(homes: usize) -> [u64; 8]
     array::from_fn(|k| stands(homes, k))
 }
 
-impl<'a> Tables<'a> {
+impl Tables<'_> {
     // The row of a set over its joins, which are given as bits: the least trial at each site. The number of sites is asked for here and not at each join,
     // so that the row stays in registers.
     pub fn joined_row(self, set: usize, joins: usize) -> [u64; 8]
@@ -45,7 +45,7 @@ impl<'a> Tables<'a> {
         ensures { AtSites (sites_at self.entry.board.now) result (start_in ◌+◌ (lent_of self.entry) joins set) × Marked result }
     {
         if joins == 0 {
-            let r = usize::trailing_zeros(set) as usize;
+            let r = set.trailing_zeros() as usize;
             return bare_row(homes_at(self.board, r));
         }
         self.joined_row(set, joins)

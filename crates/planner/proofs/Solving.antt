@@ -43,4 +43,4 @@ module _ (q : Query) (c : Charge) (l t : ℕ) where
       pub found_alike : (out : List ℕ) → l ≤ length out → length (take l out) ≡ length (take l plan)
       found_alike out h = let f = found_front in length-take-le l out h ∙ rw f.0 f.2
 
-pub ruleset solving = (found_front, found_alike)
+pub ruleset solving = (found_short, found_front, found_alike)

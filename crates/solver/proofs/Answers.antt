@@ -27,7 +27,7 @@ use Rattle.board.specs.Board.{BoardOf}
 use Rattle.filler.specs.Trials.{lent}
 use Rattle.filler.specs.Filling.{LaidOut, Fillable, FilledFrom}
 use Rattle.solver.specs.Solution.{solution_of, plan_after}
-use Rattle.board.proofs.LaidBoard.{tree_here, drawn_here}
+use Rattle.board.proofs.Here.{tree_here, drawn_here}
 
 -- A cost from its figure.
 marked_number : (c : Cost) (x : ℕ) → x ≡ mark c → x < none_mark → c ≡ some x
@@ -61,6 +61,14 @@ fillable_here q b places work table v board table_is long room =
       places_long = long;
       room = room;
     }
+
+-- What filling leaves of a query: its cells, and what is lent to read the answer off them.
+pub filled_here : (q : Query) (b places after work new table : List ℕ) (r : ℕ) → Valid q → BoardOf q b → TableOf q.joins table (2 ^ (q.joins.count + 1)) →
+    length places ≡ most_sets → cells_needed q ≤ length work →
+    ((p : Query) → Fillable p (lent b q.sizes places work) table → FilledFrom ◌+◌ p work new after r) →
+    FilledFrom ◌+◌ q work new after r × LaidOut q (lent b q.sizes after new)
+filled_here q b places after work new table r v board table_is long room fills =
+    (fills q (fillable_here q b places work table v board table_is long room), laid_here q b after new v board)
 
 -- An answer, and what becomes of the two lent areas.
 abbrev Answered : Query → (old work : List ℕ) → Solution → (plan left : List ℕ) → Type 0

@@ -11,7 +11,7 @@ use lib.Bits.{bit_and, and_le_l}
 use lib.Count.{ones}
 use lib.Dec.{eqb}
 use lib.ListN.{get_or}
-use lib.Pow.{pow_mono, pow-lt}
+use lib.Pow.{pow_mono}
 use mir.Syntax.{w64}
 use mir.Val.{Fits}
 use borrow.Author.Tests.{eq-eqb, ne_eqb}
@@ -35,10 +35,9 @@ use Rattle.sender.specs.Rows.{AtSites}
 use Rattle.sender.specs.Delivering.{Carriable, DeliveredFrom}
 use Rattle.filler.specs.Filling.{Filled}
 use Rattle.router.specs.Routing.{site_trial, site_in}
-use Rattle.solver.specs.Writing.{joins_within, site_by, join_by, Known}
+use Rattle.solver.specs.Writing.{joins_within, site_by, Known}
 use Rattle.solver.proofs.Routed.{sites_kept}
 use Rattle.board.proofs.LeastFigures.{choice_more, choice_same, place_same}
-use Rattle.router.proofs.Weighed.{choice_done}
 use Rattle.filler.proofs.Places.{reach_least}
 use Rattle.tables.proofs.Most.{delivered_most}
 use Rattle.filler.proofs.CellsStored.{delivered_same, start_joined}
@@ -47,9 +46,6 @@ use Rattle.filler.proofs.Columns as columns
 use Rattle.solver.proofs.Chosen.{within_is}
 
 -- The joins in a set as bits, one more each turn: below 2^m after m of them.
-pub bit_is : (inside : Bool) (e r : ℕ) → inside ≡ true → r ≡ 2 ^ e → e < 8 → (r ≡ pick inside (2 ^ e) 0) × (r < 256)
-bit_is inside e r held is low = (rw (held, is), rw is (pow-lt low))
-
 pick_le : (inside : Bool) (n : ℕ) → pick inside n 0 ≤ n
 pick_le true n = le_refl _
 pick_le false n = omega arith
@@ -101,9 +97,6 @@ module _ (combine : ℕ → ℕ → ℕ) (l : Lent) (S : ℕ) where
     unfolding join_trial
     join_worse none = choice_same _ e kept c (rw (ne_eqb (bit joins e) 1 (λ h. none (is ∙ h))))
 
-  pub join_by_lem : (joins k e : ℕ) (c : Choice) → joins ≡ within l S → ChoiceOf (join_trial combine l joins S k) e c → e ≤ 8 → 8 ≤ e → c.at ≡ join_by combine l S k
-  join_by_lem joins k e c joins_are h le ge = rw (← joins_are) (choice_done (join_trial combine l joins S k) e 8 8 c h le ge refl).at_is
-
 -- What the choices ask of a query whose cells are filled.
 module _ (combine : ℕ → ℕ → ℕ) (C : Combines combine) (q : Query) (l : Lent) (S : ℕ) (k : Known combine q l S) where
   low : S < 2 ^ relations_of q
@@ -124,14 +117,8 @@ module _ (combine : ℕ → ℕ → ℕ) (C : Combines combine) (q : Query) (l :
         most = λ T t h s m. k.filled.most T t (omega (arith, low)) s m;
       }
 
-  pub few_joins : joins_at l.board ≤ 8
-  few_joins = let v = k.laid.valid in omega (arith, k.laid.board.joins, v.tree.joins, v.relations_most)
-
   pub carriable : (x : ℕ) → x ≡ size_in l S → Carriable l.board x
   carriable x is = rw is (columns.carriable combine C q l k.laid S k.subquery)
-
-  pub site_low : (t : ℕ) → t < sites_of q → t < 8
-  site_low t h = omega (arith, k.laid.valid.sites_most)
 
   pub startable : (joins : ℕ) → joins ≡ within l S → Startable l joins S
   startable joins is = rw (is, within_is combine C q l k.laid S k.subquery) (columns.startable combine C q l k.laid S k.subquery filled_here)

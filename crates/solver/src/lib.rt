@@ -13,7 +13,7 @@ ghost use Rattle.solver.specs.Solution.{solution_of, plan_after};
 
 use crate::writing::{cheapest, write_plan};
 use board::{NONE, laid_out};
-use filler::fill;
+use filler::{Tables, fill};
 use query::{Charge, Query};
 use relations::SETS;
 use subqueries::join_table;
@@ -32,22 +32,26 @@ pub enum Solution {
 }
 
 // Solves a query over a lent work area, and writes the plan at the front of the other lent area.
-pub fn solve(q: Query, work: &mut [u64], plan: &mut [u8]) -> Solution
-    requires { Valid q × ((cells_needed q ≤ length work.old) × (longest_plan ≤ length plan.old)) }
-    ensures answer { result ≡ solution_of q (cheapest ◌+◌ q) }
-    ensures written { plan.new ≡ plan_after (cheapest ◌+◌ q) (written ◌+◌ q) plan.old }
-    ensures cells { (length work.new ≡ length work.old) × (drop (cells_needed q) work.new ≡ drop (cells_needed q) work.old) }
+pub fn solve(q: &Query, work: &mut [u64], plan: &mut [u8]) -> Solution
+    requires { Valid q.now × ((cells_needed q.now ≤ length work.old) × (longest_plan ≤ length plan.old)) }
+    ensures answer { result ≡ solution_of q.now (cheapest ◌+◌ q.now) }
+    ensures written { plan.new ≡ plan_after (cheapest ◌+◌ q.now) (written ◌+◌ q.now) plan.old }
+    ensures cells { (length work.new ≡ length work.old) × (drop (cells_needed q.now) work.new ≡ drop (cells_needed q.now) work.old) }
 {
     let board = laid_out(q);
     let table = join_table(q.joins);
     let mut places = [0u32; SETS];
     let tried = fill(&board, &q.sizes, &table, &mut places, &mut *work);
     let trials = q.sites.count as u64 * (tried + q.joins.count as u64);
-    let figure = cheapest(&board, &q.sizes, &places, &*work, q.target);
+    let tables = Tables {
+        board: &board,
+        sizes: &q.sizes,
+        places: &places,
+        work: &*work,
+    };
+    let figure = cheapest(tables, q.target);
     if figure < NONE {
-        let length = write_plan(
-            &board, &q.sizes, &places, &*work, &mut *plan, q.target, figure,
-        );
+        let length = write_plan(tables, &mut *plan, q.target, figure);
         return Solution::Found {
             cost: Charge(figure),
             length,

@@ -21,9 +21,6 @@ write_delivered-put_route-requires t c =
 pub write_delivered-returns-then-due-eq1 : goal.write_delivered-returns-then-due-eq1
 write_delivered-returns-then-due-eq1 t c = one_delivers _ plus_combines _ _ _ _ _ _ c.args.out.now c.if-due-eq1.true c.homes_at.ensures _ _ c.put-next.ensures _ c.size_of.ensures _ _ c.put_route.ensures
 
-pub write_delivered-join_site-from-requires : goal.write_delivered-join_site-from-requires
-write_delivered-join_site-from-requires t c = let p = c.requires in (p.0, (p.1.0, c.if-due-eq1.false))
-
 pub write_delivered-write_joined-next-requires : goal.write_delivered-write_joined-next-requires
 write_delivered-write_joined-next-requires t c = join_asked _ plus_combines _ _ _ _ _ _ c.args.out.now c.if-due-eq1.false c.join_site-from.ensures.0 _ (c.decreases, c.requires)
 
@@ -37,9 +34,6 @@ write_delivered-put_route-requires-2 t c =
 
 pub write_delivered-returns : goal.write_delivered-returns
 write_delivered-returns t c = more_delivers _ plus_combines _ _ _ _ _ _ c.args.out.now c.if-due-eq1.false c.join_site-from.ensures.0 _ _ c.write_joined-next.ensures _ c.size_of-2.ensures _ _ c.put_route-2.ensures
-
-pub write_joined-last_join-e-requires : goal.write_joined-last_join-e-requires
-write_joined-last_join-e-requires t c = let p = c.requires in (p.0, p.1.0)
 
 pub write_joined-side_at-requires : goal.write_joined-side_at-requires
 write_joined-side_at-requires t c = search (rules, last_low, plus_combines)

@@ -11,7 +11,7 @@ use native.Mathlib.Omega.{arith}
 use Rattle.rules.proofs.Combinations.{plus_combines}
 use Rattle.filler.specs.Trials.{lent}
 use Rattle.solver.specs.Writing.{Known}
-use Rattle.solver.proofs.Choices.{known_low, few_joins, startable, carriable}
+use Rattle.solver.proofs.Choices.{known_low, startable, carriable}
 use Rattle.solver.proofs.WholePlan.{known, whole_figure}
 use Rattle.solver.proofs.writing.cheapest.Goals as goal
 
@@ -23,9 +23,6 @@ here :
 here board sizes places work target m every joins is p =
     (known _ plus_combines _ target _ _ joins is p.0 p.1.0.0 p.1.0.1, omega (arith, p.1.1, p.1.0.0.valid.target_in, p.1.0.0.valid.sites_most))
 
-pub joins_within-requires : goal.joins_within-requires
-joins_within-requires c = few_joins ◌+◌ plus_combines _ _ _ (here _ _ _ _ c.args.target _ _ c.joins_of.ensures c.whole-every.ensures c.requires).0
-
 pub start_row-row-requires : goal.start_row-row-requires
 start_row-row-requires c = startable ◌+◌ plus_combines _ _ _ (here _ _ _ _ c.args.target _ _ c.joins_of.ensures c.whole-every.ensures c.requires).0 _ c.joins_within.ensures.0
 
@@ -34,12 +31,6 @@ size_of-requires c = known_low ◌+◌ plus_combines _ _ _ (here _ _ _ _ c.args.
 
 pub routed_row-cells-requires : goal.routed_row-cells-requires
 routed_row-cells-requires c = (c.start_row-row.ensures.1, carriable ◌+◌ plus_combines _ _ _ (here _ _ _ _ c.args.target _ _ c.joins_of.ensures c.whole-every.ensures c.requires).0 _ c.size_of.ensures)
-
-pub offset_bounds-cells-target : goal.offset_bounds-cells-target
-offset_bounds-cells-target c = record { fits = omega (arith, (here _ _ _ _ c.args.target _ _ c.joins_of.ensures c.whole-every.ensures c.requires).1) }
-
-pub bounds-cells-target : goal.bounds-cells-target
-bounds-cells-target c = (here _ _ _ _ c.args.target _ _ c.joins_of.ensures c.whole-every.ensures c.requires).1
 
 pub returns : goal.returns
 returns c =

@@ -2,12 +2,9 @@
 -- Assumes nothing.
 use native.Mathlib.Omega.{arith}
 use Rattle.rules.proofs.Combinations.{plus_combines}
-use Rattle.solver.proofs.Choices.{known_low, few_joins, joinable, carriable, site_figure, site_by_lem}
+use Rattle.solver.proofs.Choices.{known_low, joinable, carriable, site_figure, site_by_lem}
 use Rattle.router.proofs.Gates.{site_carried}
 use Rattle.solver.proofs.writing.join_site.Goals as goal
-
-pub joins_within-requires : goal.joins_within-requires
-joins_within-requires c = few_joins _ plus_combines _ _ _ c.requires.1.0.known
 
 pub joined_row-row-requires : goal.joined_row-row-requires
 joined_row-row-requires c = joinable _ plus_combines _ _ _ c.requires.1.0.known _ c.joins_within.ensures.0

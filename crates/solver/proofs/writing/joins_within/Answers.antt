@@ -13,4 +13,4 @@ pub loop-e-preserved : goal.loop-e-preserved
 loop-e-preserved c = search (rules, within_more)
 
 pub returns : goal.returns
-returns c = within_done _ _ _ _ c.loop-e.invariant.1 _ _ c.loop-e.invariant.0 c.loop-e-test.false c.joins_of-joins.ensures c.requires
+returns c = within_done _ _ _ _ c.loop-e.invariant _ _ c.loop-e.auto.e-end c.loop-e-test.false c.joins_of-e-end.ensures c.requires

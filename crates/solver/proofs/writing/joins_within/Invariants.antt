@@ -1,11 +1,7 @@
 -- `writing::joins_within` meets its contract: each turn adds the bit of one join more. Assumes nothing.
-use Prim.Native.Nat.{◌-◌, ◌≤◌}
 use mathlib.Core.Path.{◌≡◌}
 use Rattle.solver.specs.Writing.{joins_within}
 use Rattle.solver.proofs.writing.joins_within.Given as goal
 
 abbrev pub invariant-loop-e : goal.invariant-loop-e
-invariant-loop-e l = (l.e ≤ l.joins) × (l.found ≡ joins_within l.board l.set l.e)
-
-abbrev pub decreases-loop-e : goal.decreases-loop-e
-decreases-loop-e l = l.joins - l.e
+invariant-loop-e l = l.found ≡ joins_within l.board l.set l.e

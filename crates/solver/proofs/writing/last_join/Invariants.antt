@@ -1,11 +1,8 @@
 -- `writing::last_join` meets its contract: each turn weighs one join more, and those that are not in the set change nothing. Assumes nothing.
-use Prim.Native.Nat.{◌+◌, ◌-◌, ◌≤◌}
+use Prim.Native.Nat.{◌+◌}
 use Rattle.board.specs.Figures.{ChoiceOf}
-use Rattle.filler.specs.Trials.{lent, join_trial}
+use Rattle.filler.specs.Trials.{lent_of, join_trial}
 use Rattle.solver.proofs.writing.last_join.Given as goal
 
 abbrev pub invariant-loop-e : goal.invariant-loop-e
-invariant-loop-e l = (l.e ≤ 8) × ChoiceOf (join_trial ◌+◌ (lent l.board l.sizes l.places l.work) l.joins l.set l.k) l.e l.best
-
-abbrev pub decreases-loop-e : goal.decreases-loop-e
-decreases-loop-e l = 8 - l.e
+invariant-loop-e l = ChoiceOf (join_trial ◌+◌ (lent_of l.tables) l.joins l.set l.k) l.e l.best
