@@ -1,7 +1,7 @@
 // The lines of each call's answer.
 use crate::lent::{byte_before, cell_before, kept};
-use planner::{CheckAnswer, LinkAnswer, LoadAnswer, SolveAnswer};
-use room::RoomAnswer;
+use planner::{Charge, Loaded, Refusal, Rejection, Solution};
+use room::Figures;
 use std::{fmt, io};
 
 // Bytes in hexadecimal.
@@ -17,20 +17,22 @@ impl fmt::Display for Hex<'_> {
     }
 }
 
-pub(crate) fn of_load(out: &impl Print, a: LoadAnswer) -> io::Result<()> {
-    match a {
-        LoadAnswer::Loaded {
-            relations,
-            subqueries,
-        } => println!(out; "load {relations} {subqueries}"),
-        LoadAnswer::Refused(k) => println!(out; "refused {k}"),
+pub(crate) fn of_load(out: &impl Print, answer: Result<Loaded, Refusal>) -> io::Result<()> {
+    match answer {
+        Ok(
+            Loaded {
+                relations,
+                subqueries,
+            },
+        ) => println!(out; "load {relations} {subqueries}"),
+        Err(refusal) => println!(out; "{refusal}"),
     }
 }
 
-pub(crate) fn of_link(out: &impl Print, a: LinkAnswer) -> io::Result<()> {
-    match a {
-        LinkAnswer::Linked => println!(out; "link"),
-        LinkAnswer::Refused(k) => println!(out; "refused {k}"),
+pub(crate) fn of_link(out: &impl Print, answer: Result<(), Refusal>) -> io::Result<()> {
+    match answer {
+        Ok(()) => println!(out; "link"),
+        Err(refusal) => println!(out; "{refusal}"),
     }
 }
 
@@ -51,54 +53,68 @@ fn say_unwritten(out: &impl Print, cells: &[u64], from: usize, output: &[u8]) ->
     say_kept(out, "output", kept(output, 0, byte_before))
 }
 
-// Solve's answer, and whether those of the cells and bytes lent stayed that must: all on 20 and 21, else the cells past the needed ones,
-// and the output where no plan was found.
+// The first cell that must be unchanged after a refusal: where the output is too short, as many as are needed were used.
+fn first_kept(refusal: Refusal, needed: usize) -> usize {
+    match refusal {
+        Refusal::ShortOutput => needed,
+        _ => 0,
+    }
+}
+
+// Solve's answer, and whether those of the lent cells and bytes stayed that must: without a refusal the cells past the needed ones.
 pub(crate) fn of_solve(
     out: &impl Print,
-    a: SolveAnswer,
+    answer: Result<Solution, Refusal>,
     needed: usize,
     cells: &[u64],
     output: &[u8],
 ) -> io::Result<()> {
-    match a {
-        SolveAnswer::Found {
-            cost,
-            length,
-            trials,
-        } => {
+    match answer {
+        Ok(
+            Solution::Found {
+                cost,
+                length,
+                trials,
+            },
+        ) => {
             println!(out; "solved {} {length} {trials} {}", cost.0, Hex(output))?;
             say_cells(out, cells, needed)
         }
-        SolveAnswer::NoRoute { trials } => {
+        Ok(Solution::NoRoute { trials }) => {
             println!(out; "no-route {trials}")?;
             say_unwritten(out, cells, needed, output)
         }
-        SolveAnswer::Refused(k) => {
-            println!(out; "refused {k}")?;
-            say_unwritten(out, cells, if k == 23 { needed } else { 0 }, output)
+        Err(refusal) => {
+            println!(out; "{refusal}")?;
+            say_unwritten(out, cells, first_kept(refusal, needed), output)
         }
     }
 }
 
-// A refusal's place is told for 8 to 12.
-pub(crate) fn of_check(out: &impl Print, a: CheckAnswer) -> io::Result<()> {
-    match a {
-        CheckAnswer::Accepted { cost } => println!(out; "check {}", cost.0),
-        CheckAnswer::Refused {
-            number: number @ 8..=12,
-            place,
-        } => println!(out; "refused {number} {place}"),
-        CheckAnswer::Refused { number, place: _ } => println!(out; "refused {number}"),
+// The place of a step that is refused stands behind the refusal.
+pub(crate) fn of_check(out: &impl Print, answer: Result<Charge, Rejection>) -> io::Result<()> {
+    match answer {
+        Ok(cost) => println!(out; "check {}", cost.0),
+        Err(Rejection { refusal, place }) => match refusal {
+            Refusal::UnknownStep
+            | Refusal::LoadedBefore
+            | Refusal::SendNotAllowed
+            | Refusal::JoinNotAllowed
+            | Refusal::WrongEnd => println!(out; "{refusal} {place}"),
+            _ => println!(out; "{refusal}"),
+        },
     }
 }
 
-pub(crate) fn of_room(out: &impl Print, a: RoomAnswer) -> io::Result<()> {
-    match a {
-        RoomAnswer::Figures {
-            subqueries,
-            cells,
-            trials,
-        } => println!(out; "room {subqueries} {cells} {trials}"),
-        RoomAnswer::Refused(k) => println!(out; "refused {k}"),
+pub(crate) fn of_room(out: &impl Print, answer: Result<Figures, Refusal>) -> io::Result<()> {
+    match answer {
+        Ok(
+            Figures {
+                subqueries,
+                cells,
+                trials,
+            },
+        ) => println!(out; "room {subqueries} {cells} {trials}"),
+        Err(refusal) => println!(out; "{refusal}"),
     }
 }

@@ -1,10 +1,7 @@
 // One record of a script: the call that it names, and the line that it prints.
 // Each function answers the planner with which the run goes on, an error where its answer was not written, or None where the script is cut.
-ghost use Rattle.std.specs.Prelude.{IfSome, IfOk};
-ghost use Rattle.planner.specs.Code.{Sound};
-
 use crate::{answers, input, lent};
-use planner::{AfterLoad, Planner};
+use planner::{After, Loaded, Planner};
 use std::io;
 use std::io::Read;
 
@@ -14,54 +11,36 @@ pub(crate) fn next(
     script: &mut impl Read,
     out: &impl Print,
     p: Planner,
-) -> Option<io::Result<Planner>>
-    requires { Sound p }
-    ensures { IfSome result (λ after. IfOk after Sound) }
-{
+) -> Option<io::Result<Planner>> {
     let [kind]: [u8; 1] = input::bytes(script)?;
     match kind {
-        1 => load(script, out, p, false),
+        1 => load(script, out, p, |p, file| planner::load(p, file)),
         2 => link(script, out, p),
         5 => check(script, out, p),
         6 => solve(script, out, p),
-        7 => load(script, out, p, true),
+        7 => load(script, out, p, |p, file| planner::load_rows(p, file)),
         8 => room(script, out, p),
         _ => None,
     }
 }
 
-// The one load or the other.
-fn loaded(p: Planner, from_rows: bool, file: &[u8]) -> AfterLoad
-    requires { Sound p }
-    ensures { Sound result.planner }
-{
-    if from_rows {
-        return planner::load_rows(p, file);
-    }
-    planner::load(p, file)
-}
-
 // 1 load and 7 load from rows: u16 length, bytes.
-fn load(
+fn load<F: Fn(Planner, &[u8]) -> After<Loaded>>(
     script: &mut impl Read,
     out: &impl Print,
     p: Planner,
-    from_rows: bool,
+    call: F,
 ) -> Option<io::Result<Planner>>
-    requires { Sound p }
-    ensures { IfSome result (λ after. IfOk after Sound) }
+    requires { F.IsAlwaysCallable call }
 {
     let mut buffer = [0u8; 65536];
-    let after = loaded(p, from_rows, input::counted(script, &mut buffer)?);
+    let after = call(p, input::counted(script, &mut buffer)?);
     let written = answers::of_load(out, after.answer);
     Some(written.map(|()| after.planner))
 }
 
 // 2 link: sender, receiver, open, fixed, rate as five u64.
-fn link(script: &mut impl Read, out: &impl Print, p: Planner) -> Option<io::Result<Planner>>
-    requires { Sound p }
-    ensures { IfSome result (λ after. IfOk after Sound) }
-{
+fn link(script: &mut impl Read, out: &impl Print, p: Planner) -> Option<io::Result<Planner>> {
     let sender = input::number(script)?;
     let receiver = input::number(script)?;
     let opened = input::number(script)?;
@@ -73,20 +52,14 @@ fn link(script: &mut impl Read, out: &impl Print, p: Planner) -> Option<io::Resu
 }
 
 // 5 check: u16 length, plan bytes.
-fn check(script: &mut impl Read, out: &impl Print, p: Planner) -> Option<io::Result<Planner>>
-    requires { Sound p }
-    ensures { IfSome result (λ after. IfOk after Sound) }
-{
+fn check(script: &mut impl Read, out: &impl Print, p: Planner) -> Option<io::Result<Planner>> {
     let mut buffer = [0u8; 65536];
     let answer = planner::check(p, input::counted(script, &mut buffer)?);
     Some(answers::of_check(out, answer).map(|()| p))
 }
 
 // 6 solve: u32 number of cells lent, at most 8,192; u32 length of the output lent, at most 4,096.
-fn solve(script: &mut impl Read, out: &impl Print, p: Planner) -> Option<io::Result<Planner>>
-    requires { Sound p }
-    ensures { IfSome result (λ after. IfOk after Sound) }
-{
+fn solve(script: &mut impl Read, out: &impl Print, p: Planner) -> Option<io::Result<Planner>> {
     let n = (input::word(script)? as usize).min(8192);
     let m = (input::word(script)? as usize).min(4096);
     let mut most_cells: [u64; 8192] = std::array::from_fn(lent::cell_before);
@@ -100,10 +73,7 @@ fn solve(script: &mut impl Read, out: &impl Print, p: Planner) -> Option<io::Res
 }
 
 // 8 room: n and s as two u64, u16 length, join bytes. It takes no planner, so that the run goes on with the one that stands.
-fn room(script: &mut impl Read, out: &impl Print, p: Planner) -> Option<io::Result<Planner>>
-    requires { Sound p }
-    ensures { IfSome result (λ after. IfOk after Sound) }
-{
+fn room(script: &mut impl Read, out: &impl Print, p: Planner) -> Option<io::Result<Planner>> {
     let n = input::number(script)?;
     let s = input::number(script)?;
     let mut buffer = [0u8; 65536];
