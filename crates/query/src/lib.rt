@@ -1,14 +1,12 @@
 // The query and its prices.
 #![tactic(auto)]
 
-mod amounts;
 mod refusal;
 mod zeros;
 
-pub use amounts::amount;
 pub use refusal::Refusal;
 use relations::{Joins, SETS};
-pub use zeros::{no_joins, no_lines, no_query, no_relations, no_sites};
+pub use zeros::{no_joins, no_lines, no_relations, no_sites};
 
 pub mod price;
 

@@ -8,13 +8,11 @@ mod masks;
 mod member;
 mod splitting;
 mod tree;
-mod widening;
 
 pub use masks::ends;
 pub use member::{bit, single, whole, within};
 pub use splitting::{Parts, split};
 pub use tree::{reaches, sides};
-pub use widening::wide;
 
 // How many sets of relations arrays over sets have room for: those of nine relations.
 pub const SETS: usize = 512;
