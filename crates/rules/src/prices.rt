@@ -1,6 +1,5 @@
 // What a send and a join make of the held results, with their prices.
-ghost use Rattle.std.specs.Prelude.{◌+◌, ◌*◌, ◌^◌, ◌≤◌, ◌<◌, ◌≡◌};
-ghost use Rattle.relations.specs.Code.{most_sets};
+ghost use Rattle.std.specs.Prelude.{◌+◌, ◌^◌, ◌≤◌, ◌<◌, ◌≡◌};
 ghost use Rattle.query.specs.Query.{Valid, relations_of, size};
 ghost use Rattle.query.specs.Prices.{join_price, dearest_join};
 ghost use Rattle.rules.specs.Machine.{bare_of, qualifies, sent_to, join_of};
