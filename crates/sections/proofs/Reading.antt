@@ -27,3 +27,5 @@ module _ (w fault low high : ℕ) (l : List ℕ) where
     pub field_whole : (rest : List ℕ) → rest ≡ drop w l → t ≡ true → value v rest ≡ field w fault low high l
     unfolding field
     field_whole rest r h = rw (le-ltb _ _ whole, same_number, ← test, h, r)
+
+pub ruleset judged = (field_cut, field_out, field_whole)

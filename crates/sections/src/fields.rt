@@ -46,6 +46,7 @@ impl<'a> Part<'a> {
     }
 
     // A field of some bytes: whole before it is judged, then from low to high, or refused with the fault.
+    #[tactic(auto, using(crate::proofs::Reading::judged))]
     pub fn field(
         &mut self,
         width: usize,
