@@ -5,13 +5,27 @@ use mathlib.Core.Path.{◌≡◌, ◌∙◌}
 use mathlib.Core.List.{List}
 use lib.ListN.{length, get_or, set, replicate, length-set, get_or-replicate}
 use lib.Seq.{get_or-set_same, get_or-set_other}
+use Rattle.std.proofs.lemmas.Grind.{common_steps}
 use Rattle.relations.specs.Growth.{first}
+use Rattle.relations.specs.Trees.{Tree}
+use Rattle.relations.specs.Code.{Drawn}
 use Rattle.query.specs.declared.Query.{Query}
 use Rattle.query.proofs.Prices.{spared_alone}
-use Rattle.query.specs.Query.{Valid, relations_of, sites_of}
+use Rattle.query.specs.Query.{Valid, relations_of, sites_of, home}
 use Rattle.board.specs.Board.{entries, BoardOf, spareable_of}
 use Rattle.board.specs.Laying.{Kept, JoiningLaid, RelationsLaid, PairsLaid, LinesLaid}
-use Rattle.board.proofs.Laid.{kept_set, kept_then}
+
+-- What a valid query grants the steps: its joins make a tree and are drawn, and its homes are numbers of sites.
+pub tree_here : (q : Query) → Valid q → Tree q.joins (q.joins.count + 1)
+tree_here q v = rw v.tree.joins v.tree
+
+pub drawn_here : (q : Query) → Valid q → Drawn q.joins
+drawn_here q v =
+    let t = tree_here q v in
+    record { few = omega (arith, v.tree.joins, v.relations_most); first_in = t.first_in; second_in = t.second_in }
+
+pub home_low : (q : Query) → Valid q → (r : ℕ) → r < relations_of q → home q r < 8
+home_low q v r h = omega (arith, v.homes r h, v.sites_most)
 
 -- All of it: what is laid stays, as every later step stores elsewhere. No row had anything before.
 pub board_laid : (q : Query) → Valid q → (o a b c d : List ℕ) → o ≡ replicate entries 0 →
@@ -48,9 +62,7 @@ board_laid q v o a b c d empty joining relations pairs lines =
     nothing_before j h g = joining.later j h ∙ rw empty (get_or-replicate entries j 0 0 g)
 
     last : Kept d new 313 315
-    last =
-        kept_then d (set d 313 q.joins.count) new 313 314 314 315 313 315 (kept_set d 313 q.joins.count 313 314 (omega arith) (omega arith))
-        (kept_set (set d 313 q.joins.count) 314 (sites_of q) 314 315 (omega arith) (omega arith)) (omega arith) (omega arith) (omega arith) (omega arith)
+    last = grind (arith, common_steps)
 
     after : (j : ℕ) → j < 112 → get_or new j 0 ≡ get_or b j 0
     after j h = last.below j (omega arith) ∙ lines.kept.below j (omega arith) ∙ pairs.kept.below j (omega arith)

@@ -1,5 +1,5 @@
 -- The steps of laying a board out: each leaves its own rows, and what the steps before it laid.
-use Prim.Native.Nat.{ℕ, ◌+◌, ◌*◌, ◌^◌, ◌<◌}
+use Prim.Native.Nat.{ℕ, ◌+◌, ◌^◌, ◌<◌}
 use native.Mathlib.Omega.{arith}
 use mathlib.Core.Path.{◌≡◌, refl, sym, ap, ◌∙◌}
 use mathlib.Core.List.{List}
@@ -14,10 +14,9 @@ use Rattle.query.specs.Query.{Valid, home, index, size, join_rate}
 use Rattle.query.specs.Spared.{spareable, spared}
 use Rattle.query.proofs.Prices.{spared_alone}
 use Rattle.board.specs.Figures.{Lanes}
-use Rattle.board.specs.Board.{entries, lane, fixed_of, spareable_of, line_fixed_of, line_rate_of}
-use Rattle.board.specs.Laying.{Laid, JoiningLaid, RelationsLaid, LinesLaid}
-use Rattle.board.proofs.Here.{drawn_here}
-use Rattle.board.proofs.Laid.{kept_none, rows_below, rows_above, rows_more}
+use Rattle.board.specs.Board.{entries, lane, fixed_of, spareable_of}
+use Rattle.board.specs.Laying.{Laid, JoiningLaid, RelationsLaid}
+use Rattle.board.proofs.LaidBoard.{drawn_here}
 
 -- The rows of the joins and of joining: each is laid once, and no later row of the four touches it.
 pub joining_laid : (a b c d e v w f g ends sides : List ℕ) (q : Query) → Valid q → length a ≡ entries →
@@ -44,7 +43,7 @@ index_laid q a b i r h m size at single of flagged laid =
 pub no_index_laid : (q : Query) (a : List ℕ) (i r : ℕ) → (get_or q.relations.index r 0 ≡ 1 → ⊥) → Laid a a i (λ k. spared (lane a i k) (spareable_of q r k)) 8
 unfolding spareable_of index
 no_index_laid q a i r plain =
-    record { kept = kept_none a (8 * i) (8 * i + 8); each = λ k low. rw (ne_eqb (get_or q.relations.index r 0) 1 plain) (sym (none k (eqb (home q r) k))) }
+    record { kept = record { long = refl; below = λ j h. refl; above = λ j h. refl }; each = λ k low. rw (ne_eqb (get_or q.relations.index r 0) 1 plain) (sym (none k (eqb (home q r) k))) }
   where
     none : (k : ℕ) (t : Bool) → spared (lane a i k) (spareable (t && false) (size q (2 ^ r))) ≡ lane a i k
     none k true = (spared_alone (lane a i k)).0
@@ -54,14 +53,3 @@ no_index_laid q a i r plain =
 pub relations_more : (q : Query) (old a b : List ℕ) (r x : ℕ) → RelationsLaid old a q r → r < 9 → length a ≡ entries → x ≡ 2 ^ home q r →
     Laid (set a (304 + r) x) b (4 + r) (λ k. spared (lane (set a (304 + r) x) (4 + r) k) (spareable_of q r k)) 8 → RelationsLaid old b q (r + 1)
 relations_more q old a b r x before low long is laid = grind (arith, common_steps)
-
--- The lines of one sender more.
-pub lines_more : (q : Query) (old a b c v w : List ℕ) (k : ℕ) → LinesLaid old a q k → k < 8 →
-    Lanes v (line_fixed_of q k) → Laid a b (14 + k) (λ t. get_or v t 0) 8 → Lanes w (line_rate_of q k) → Laid b c (22 + k) (λ t. get_or w t 0) 8 →
-    LinesLaid old c q (k + 1)
-lines_more q old a b c v w k l h vs one ws two =
-    record {
-      kept = grind arith;
-      fixed_rows = grind (arith, rows_below, rows_more);
-      rate_rows = grind (arith, rows_above, rows_more);
-    }

@@ -1,7 +1,5 @@
 pub mod LeastFigures
 pub mod Signed
 pub mod Given
-pub mod Here
-pub mod Laid
 pub mod LaidSteps
 pub mod LaidBoard

@@ -34,9 +34,11 @@ fn lay_joining(board: &mut [u64; BOARD], q: &Query)
     requires { Valid q.now }
     ensures { JoiningLaid board.old board.new q.now }
 {
+    let ends = ends(q.joins);
+    let sides = sides(q.joins);
     let fixed = array::from_fn(|k| if_flagged(q.sites.may[k], q.sites.fixed[k]));
-    lay(board, ENDS, ends(q.joins).map(|s| s as u64));
-    lay(board, SIDES, sides(q.joins).map(|s| s as u64));
+    lay(board, ENDS, ends.map(|s| s as u64));
+    lay(board, SIDES, sides.map(|s| s as u64));
     lay(board, FIXED, fixed);
     lay(board, RATE, q.sites.rate.map(|r| u64::from(r)));
 }

@@ -1,131 +1,120 @@
-// The lines of each call's answer: whether all of them were written.
-ghost use Rattle.std.specs.Prelude.{◌≤◌};
+// The lines of each call's answer.
+use crate::lent::{byte_before, cell_before, kept};
+use planner::{Charge, Loaded, Refusal, Rejection, Solution};
+use room::Figures;
+use std::{fmt, io};
 
-use crate::lent::{cells_kept, output_kept};
-use crate::printing::{hex, line, line_three, line_two, number, text};
-use planner::{CheckAnswer, LinkAnswer, LoadAnswer, SolveAnswer};
-use room::RoomAnswer;
+// Bytes in hexadecimal.
+#[derive(Clone, Copy)]
+struct Hex<'a>(&'a [u8]);
 
-pub(crate) fn of_load(out: &impl Print, a: LoadAnswer) -> bool {
-    match a {
-        LoadAnswer::Loaded {
-            relations,
-            subqueries,
-        } => line_two(out, b"load ", relations, subqueries),
-        LoadAnswer::Refused(k) => line(out, b"refused ", k),
+impl fmt::Display for Hex<'_> {
+    fn fmt<W: fmt::Write>(&self, f: &mut fmt::Formatter<W>) -> fmt::Result {
+        for b in self.0 {
+            write!(f, "{b:02x}")?;
+        }
+        Ok(())
     }
 }
 
-pub(crate) fn of_link(out: &impl Print, a: LinkAnswer) -> bool {
-    match a {
-        LinkAnswer::Linked => text(out, b"link\n"),
-        LinkAnswer::Refused(k) => line(out, b"refused ", k),
+pub(crate) fn of_load(out: &impl Print, answer: Result<Loaded, Refusal>) -> io::Result<()> {
+    match answer {
+        Ok(
+            Loaded {
+                relations,
+                subqueries,
+            },
+        ) => println!(out; "load {relations} {subqueries}"),
+        Err(refusal) => println!(out; "{refusal}"),
+    }
+}
+
+pub(crate) fn of_link(out: &impl Print, answer: Result<(), Refusal>) -> io::Result<()> {
+    match answer {
+        Ok(()) => println!(out; "link"),
+        Err(refusal) => println!(out; "{refusal}"),
     }
 }
 
 // `cells OK` or `cells CHANGED`: whether what must be unchanged is.
-fn say_kept(out: &impl Print, what: &[u8], kept: bool) -> bool {
-    if kept {
-        return text(out, what) && text(out, b" OK\n");
-    }
-    text(out, what) && text(out, b" CHANGED\n")
+fn say_kept(out: &impl Print, what: &str, kept: bool) -> io::Result<()> {
+    let how = if kept { "OK" } else { "CHANGED" };
+    println!(out; "{what} {how}")
 }
 
-// `solved 21 9 3 04..`: cost, length, trials and the whole output.
-fn say_solved(
-    out: &impl Print,
-    cost: u64,
-    length: u64,
-    trials: u64,
-    output: &[u8; 4096],
-    m: usize,
-) -> bool
-    requires { m ≤ 4096 }
-{
-    text(out, b"solved ")
-        && number(out, cost)
-        && text(out, b" ")
-        && number(out, length)
-        && text(out, b" ")
-        && number(out, trials)
-        && text(out, b" ")
-        && hex(out, output, m)
-        && text(out, b"\n")
-}
-
-// The first cell that must be unchanged after a refusal: all stay on 20 and 21, and those past the needed ones on 23.
-fn first_kept(refusal: u64, needed: usize) -> usize {
-    if refusal == 23 { needed } else { 0 }
+// Whether the cells from one on are as they were lent.
+fn say_cells(out: &impl Print, cells: &[u64], from: usize) -> io::Result<()> {
+    say_kept(out, "cells", kept(cells, from, cell_before))
 }
 
 // Nothing was written to the output, and the cells from one on stay.
-fn say_unwritten(
-    out: &impl Print,
-    cells: &[u64; 8192],
-    from: usize,
-    n: usize,
-    output: &[u8; 4096],
-    m: usize,
-) -> bool
-    requires { (n ≤ 8192) × (m ≤ 4096) }
-{
-    say_kept(out, b"cells", cells_kept(cells, from, n))
-        && say_kept(out, b"output", output_kept(output, m))
+fn say_unwritten(out: &impl Print, cells: &[u64], from: usize, output: &[u8]) -> io::Result<()> {
+    say_cells(out, cells, from)?;
+    say_kept(out, "output", kept(output, 0, byte_before))
 }
 
-// Solve's answer, and whether those of the n cells and m bytes stayed that must: without a refusal the cells past the needed ones.
+// The first cell that must be unchanged after a refusal: where the output is too short, as many as are needed were used.
+fn first_kept(refusal: Refusal, needed: usize) -> usize {
+    match refusal {
+        Refusal::ShortOutput => needed,
+        _ => 0,
+    }
+}
+
+// Solve's answer, and whether those of the lent cells and bytes stayed that must: without a refusal the cells past the needed ones.
 pub(crate) fn of_solve(
     out: &impl Print,
-    a: SolveAnswer,
+    answer: Result<Solution, Refusal>,
     needed: usize,
-    cells: &[u64; 8192],
-    n: usize,
-    output: &[u8; 4096],
-    m: usize,
-) -> bool
-    requires { (n ≤ 8192) × (m ≤ 4096) }
-{
-    match a {
-        SolveAnswer::Found {
-            cost,
-            length,
-            trials,
-        } => {
-            say_solved(out, cost.0, length, trials, output, m)
-                && say_kept(out, b"cells", cells_kept(cells, needed, n))
+    cells: &[u64],
+    output: &[u8],
+) -> io::Result<()> {
+    match answer {
+        Ok(
+            Solution::Found {
+                cost,
+                length,
+                trials,
+            },
+        ) => {
+            println!(out; "solved {} {length} {trials} {}", cost.0, Hex(output))?;
+            say_cells(out, cells, needed)
         }
-        SolveAnswer::NoRoute { trials } => {
-            line(out, b"no-route ", trials) && say_unwritten(out, cells, needed, n, output, m)
+        Ok(Solution::NoRoute { trials }) => {
+            println!(out; "no-route {trials}")?;
+            say_unwritten(out, cells, needed, output)
         }
-        SolveAnswer::Refused(k) => {
-            line(out, b"refused ", k)
-                && say_unwritten(out, cells, first_kept(k, needed), n, output, m)
+        Err(refusal) => {
+            println!(out; "{refusal}")?;
+            say_unwritten(out, cells, first_kept(refusal, needed), output)
         }
     }
 }
 
-// A refusal of check: its number, and its place for 8 to 12.
-fn say_refused(out: &impl Print, number: u64, place: u64) -> bool {
-    if 8 <= number && number <= 12 {
-        return line_two(out, b"refused ", number, place);
+// The place of a step that is refused stands behind the refusal.
+pub(crate) fn of_check(out: &impl Print, answer: Result<Charge, Rejection>) -> io::Result<()> {
+    match answer {
+        Ok(cost) => println!(out; "check {}", cost.0),
+        Err(Rejection { refusal, place }) => match refusal {
+            Refusal::UnknownStep
+            | Refusal::LoadedBefore
+            | Refusal::SendNotAllowed
+            | Refusal::JoinNotAllowed
+            | Refusal::WrongEnd => println!(out; "{refusal} {place}"),
+            _ => println!(out; "{refusal}"),
+        },
     }
-    line(out, b"refused ", number)
 }
 
-pub(crate) fn of_check(out: &impl Print, a: CheckAnswer) -> bool {
-    match a {
-        CheckAnswer::Accepted { cost } => line(out, b"check ", cost.0),
-        CheckAnswer::Refused { number, place } => say_refused(out, number, place),
-    }
-}
-
-pub(crate) fn of_room(out: &impl Print, a: RoomAnswer) -> bool {
-    match a {
-        RoomAnswer::Figures {
-            subqueries,
-            cells,
-            trials,
-        } => line_three(out, b"room ", subqueries, cells, trials),
-        RoomAnswer::Refused(k) => line(out, b"refused ", k),
+pub(crate) fn of_room(out: &impl Print, answer: Result<Figures, Refusal>) -> io::Result<()> {
+    match answer {
+        Ok(
+            Figures {
+                subqueries,
+                cells,
+                trials,
+            },
+        ) => println!(out; "room {subqueries} {cells} {trials}"),
+        Err(refusal) => println!(out; "{refusal}"),
     }
 }

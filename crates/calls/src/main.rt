@@ -4,34 +4,26 @@
 mod answers;
 mod input;
 mod lent;
-mod printing;
 mod records;
 
-ghost use Rattle.planner.specs.Code.{Sound};
-
-use planner::Planner;
+use std::io;
 use std::io::Read;
 
 fn main(rt: HostRuntime) {
-    if !run(&mut rt.stdin(), &rt, planner::empty()) {
+    if run(&mut rt.stdin(), &rt).is_err() {
         let _ = eprintln!(rt; "calls: an answer was not written");
     }
 }
 
-// Runs records until one ends the run: whether every answer was written.
-// A proved loop has to end, so it counts down from a number that no script uses up.
-fn run(script: &mut impl Read, out: &impl Print, start: Planner) -> bool
-    requires { Sound start }
-{
-    let mut p = start;
-    let mut left = u64::MAX;
-    while 0 < left {
-        let after = records::next(script, out, p);
-        if !after.more {
-            return after.written;
-        }
-        p = after.planner;
-        left -= 1;
+// Runs records until the script ends, or an answer was not written.
+// A proved loop has to end: no script has so many records.
+fn run(script: &mut impl Read, out: &impl Print) -> io::Result<()> {
+    let mut p = planner::empty();
+    for _ in 0..u64::MAX {
+        let Some(after) = records::next(script, out, p) else {
+            break;
+        };
+        p = after?;
     }
-    true
+    Ok(())
 }

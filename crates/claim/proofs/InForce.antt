@@ -1,4 +1,4 @@
--- Every planner that a list of calls gives is sound, and the query that stands in it is the query in force: by induction over the list.
+-- The query that stands in a planner that a list of calls gives is the query in force: by induction over the list.
 use Prim.Native.Nat.{ℕ}
 use mathlib.Core.Path.{◌≡◌, refl, ap, ◌∙◌}
 use mathlib.Core.List.{List}
@@ -17,17 +17,8 @@ use Rattle.planner.specs.Done.{Done}
 use Rattle.planner.specs.Load.{load_decoded, load_by}
 use Rattle.planner.specs.Link as linking
 use Rattle.planner.specs.Link.{Link, link_of, sites_listed, terms_in_range, link}
-use Rattle.planner.specs.Code.{state_of, Sound}
+use Rattle.planner.specs.Code.{state_of}
 use Rattle.claim.specs.Lists.{Call, after_load, after_link, in_force, Runs, at_first, loads, loads_rows, links, solves, checks, rooms}
-
-pub sound : {calls : List Call} {p : Planner} → Runs calls p → Sound p
-sound (at_first e) = e.1
-sound (loads κs file last r w e) = e.1
-sound (loads_rows κs file last r w e) = e.1
-sound (links a b f x r d w e) = e.1
-sound (solves κs cells cells' output output' r w e) = sound w
-sound (checks κs plan last r w e) = sound w
-sound (rooms κs n s pairs last r w e) = sound w
 
 -- What each call's definition does to the query that stands.
 decoded_query : (x : Read Query) (s : State) → (load_decoded x s).next ≡ after_load x s
@@ -51,12 +42,12 @@ left_standing e = rw e
 
 pub stands : {calls : List Call} {p : Planner} → Runs calls p → state_of p ≡ in_force calls
 unfolding in_force
-stands (at_first e) = e.0
+stands (at_first e) = e
 stands (loads {p} κs file last r w e) =
-    left_standing e.0 ∙ load_query form.Sizes file.now (state_of p) ∙ ap (after_load (decode form.Sizes file.now)) (stands w)
+    left_standing e ∙ load_query form.Sizes file.now (state_of p) ∙ ap (after_load (decode form.Sizes file.now)) (stands w)
 stands (loads_rows {p} κs file last r w e) =
-    left_standing e.0 ∙ load_query form.Rows file.now (state_of p) ∙ ap (after_load (decode form.Rows file.now)) (stands w)
-stands (links {p} a b f x r d w e) = left_standing e.0 ∙ link_query (link_of a b f x r) (state_of p) ∙ ap (after_link (link_of a b f x r)) (stands w)
+    left_standing e ∙ load_query form.Rows file.now (state_of p) ∙ ap (after_load (decode form.Rows file.now)) (stands w)
+stands (links {p} a b f x r d w e) = left_standing e ∙ link_query (link_of a b f x r) (state_of p) ∙ ap (after_link (link_of a b f x r)) (stands w)
 stands (solves κs cells cells' output output' r w e) = stands w
 stands (checks κs plan last r w e) = stands w
 stands (rooms κs n s pairs last r w e) = stands w

@@ -4,14 +4,13 @@ use Prim.Native.Nat.{ℕ, ◌+◌, ◌≤◌}
 use native.Mathlib.Omega.{arith}
 use mathlib.Core.Path.{◌≡◌, refl, sym, ap, subst, ◌∙◌}
 use mathlib.Core.Logic.{◌↔◌}
-use mathlib.Core.Bool.{Bool, true, false, and-eq-true_iff}
+use mathlib.Core.Bool.{true, and-eq-true_iff}
 use mathlib.Core.List.{List, ◌++◌}
 use mathlib.Core.Option.{none, some}
 use lib.ListN.{length, drop}
 use lib.Dec.{leb}
 use borrow.Author.Tests.{leb-true, le-leb}
 use Rattle.query.specs.declared.Query.{Query}
-use Rattle.query.specs.Choice.{pick}
 use Rattle.query.specs.Cost.{Cost}
 use Rattle.query.specs.Query.{Valid}
 use Rattle.rules.specs.Allowed.{longest_plan}
@@ -22,34 +21,24 @@ use Rattle.tables.proofs.Upper.{written_law, written_most}
 use Rattle.tables.proofs.Lower.{cheapest_law}
 use Rattle.rules.proofs.Combinations.{plus_combines}
 use Rattle.tables.proofs.Optimum.{no_route_law}
-use Rattle.planner.specs.declared.Planner.{Planner}
 use Rattle.planner.specs.State.{State}
 use Rattle.planner.specs.Solve.{Answer, no_route, found, Solving, solving_of, solved, has_room, solve_admitted}
-use Rattle.planner.specs.Code.{state_of, of_solve, Sound}
+use Rattle.planner.specs.Code.{state_of, of_solve}
+use Rattle.planner.proofs.Sound.{standing_valid}
 use Rattle.planner.proofs.Cells.{solve_is, writing_fits}
 use Rattle.claim.specs.Lists.{in_force}
 use Rattle.claim.specs.Claim.{NoPlan, Right, Demand3, Ample, EveryCall}
-use Rattle.claim.proofs.InForce.{sound, stands}
+use Rattle.claim.proofs.InForce.{stands}
 
 pub every_call : EveryCall
-every_call calls p w =
-    let h = sound w in
-    record {
-      load = λ κs file. h;
-      load_rows = λ κs file. h;
-      link = λ a b f x r. h;
-      solve = λ κs cells output. h;
-      check = λ κs plan. h;
-      room = λ κs n s pairs. tt;
-    }
-
--- The query that stands in a sound planner is valid.
-standing_valid : (p : Planner) (q : Query) → Sound p → state_of p ≡ some q → Valid q
-standing_valid p q s = go p.loaded refl
-  where
-    go : (b : Bool) → p.loaded ≡ b → pick b (some p.query) none ≡ some q → Valid q
-    go true e f = let g : p.query ≡ q = cc in rw g at (s.valid e)
-    go false e f = absurd (let z : ◌≡◌ {A = ℕ} 0 1 = cc in omega arith)
+every_call calls p w = record {
+  load = λ κs file. tt;
+  load_rows = λ κs file. tt;
+  link = λ a b f x r. tt;
+  solve = λ κs cells output. tt;
+  check = λ κs plan. tt;
+  room = λ κs n s pairs. tt;
+}
 
 -- An admitted solve has a query in force, cells enough, and room for the plan if there is one.
 pub record Admitted (s : State) (cells bytes : ℕ) : Type 0 where
@@ -98,7 +87,7 @@ demand3 calls p w κs cells cells' output output' r post ok =
     let h = admitted (in_force calls) n (length output.now) ok in
     let q = h.query in
     let stood = stands w ∙ h.in_force in
-    let valid = standing_valid p q (sound w) stood in
+    let valid = standing_valid p q stood in
     let d = post.0 ∙ solve_is (state_of p) q n output.now stood h.enough in
     record {
       query = q;
@@ -114,5 +103,5 @@ long_enough q valid (Cost.some c) e bytes h = le-leb (length (written ◌+◌ q)
 
 pub ample : Ample
 ample calls p w q e cells bytes enough room =
-    let valid = standing_valid p q (sound w) (stands w ∙ e) in
+    let valid = standing_valid p q (stands w ∙ e) in
     rw (e, le-leb (cells_needed q) cells enough, long_enough q valid (cheapest ◌+◌ q) refl bytes room)

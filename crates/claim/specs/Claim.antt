@@ -1,16 +1,17 @@
 -- The promise, whole: a claim over every list of load, link, solve, check and room calls, refused ones included, that starts from an
 -- empty planner and ends in an admitted solve. Proved in proofs/Promise.antt.
 use Prim.{tt}
-use Rattle.std.specs.Prelude.{ℕ, ◌+◌, ◌≤◌, ◌≡◌, ◌↔◌, true, List, ◌++◌, length, drop}
+use Rattle.std.specs.Prelude.{ℕ, ◌+◌, ◌≤◌, ◌≡◌, ◌↔◌, true, List, ◌++◌, length, drop, Result}
 use Rattle.std.proofs.Math.Option.{some}
 use Rattle.std.specs.Borrow.{Bor, MutBor}
 use contract.Lifetimes.{Lfts}
 use Rattle.query.specs.declared.Query.{Query}
+use Rattle.query.specs.declared.refusal.Refusal.{Refusal}
 use Rattle.rules.specs.Allowed.{AllowedAt, Allowed, longest_plan}
+use Rattle.solver.specs.declared.Solution.{Solution}
 use Rattle.tables.specs.Tables.{trials}
 use Rattle.tables.specs.Work.{cells_needed}
 use Rattle.planner.specs.declared.Planner.{Planner}
-use Rattle.planner.specs.declared.SolveAnswer.{SolveAnswer}
 use Rattle.planner.specs.Solve.{Answer, found, no_route, refused, solve_admitted}
 use Rattle.planner.specs.Code.{of_solve}
 use Rattle.room.proofs.room.Reads as Room
@@ -45,7 +46,7 @@ Right q (found c l t) before after = WrittenAt q c l before after × NoneCheaper
 Right q (refused k) before after = ⊥
 
 -- What the list's last solve comes to.
-pub record Solved (calls : List Call) (r : SolveAnswer) (before after : List ℕ) : Type 0 where
+pub record Solved (calls : List Call) (r : Result Solution Refusal) (before after : List ℕ) : Type 0 where
   pub query : Query
   pub in_force : in_force calls ≡ some query
   pub right : Right query (of_solve r) before after
@@ -54,7 +55,7 @@ pub record Solved (calls : List Call) (r : SolveAnswer) (before after : List ℕ
 -- Demand 3.
 abbrev pub Demand3 : Type 0
 Demand3 =
-    (calls : List Call) (p : Planner) → Runs calls p → (κs : Lfts 2) (cells cells' output output' : MutBor (List ℕ)) (r : SolveAnswer) →
+    (calls : List Call) (p : Planner) → Runs calls p → (κs : Lfts 2) (cells cells' output output' : MutBor (List ℕ)) (r : Result Solution Refusal) →
     Solve.Post κs (p, (cells, (output, tt))) r (p, (cells', (output', tt))) →
     solve_admitted (in_force calls) (length cells.now) (length output.now) ≡ true → Solved calls r output.now output'.now
 

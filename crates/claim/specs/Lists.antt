@@ -1,22 +1,24 @@
 -- Lists of calls: what a call brings, which planners a list can give, and the query in force, which is worked out from the list alone.
 use Prim.{tt}
-use Rattle.std.specs.Prelude.{ℕ, List, [], ◌∷◌}
+use Rattle.std.specs.Prelude.{ℕ, List, [], ◌∷◌, Result}
 use Rattle.std.proofs.Math.Option.{Option, none, some}
 use Rattle.std.specs.Borrow.{Bor, MutBor}
 use contract.Lifetimes.{Lfts}
+use Rattle.query.specs.declared.Charge.{Charge}
 use Rattle.query.specs.declared.Query.{Query}
+use Rattle.query.specs.declared.refusal.Refusal.{Refusal}
 use Rattle.query.specs.Choice.{pick}
 use Rattle.query.specs.Query.{sites_of}
 use Rattle.sections.specs.Fields.{Read, value}
 use Rattle.sections.specs.Fields as fields
 use Rattle.decoder.specs.Decode.{decode}
 use Rattle.decoder.specs.declared.Form.TheVariants as form
-use Rattle.room.specs.declared.RoomAnswer.{RoomAnswer}
+use Rattle.rules.specs.declared.Rejection.{Rejection}
+use Rattle.solver.specs.declared.Solution.{Solution}
+use Rattle.room.specs.declared.Figures.{Figures}
 use Rattle.planner.specs.declared.Planner.{Planner}
-use Rattle.planner.specs.declared.AfterLoad.{AfterLoad}
-use Rattle.planner.specs.declared.AfterLink.{AfterLink}
-use Rattle.planner.specs.declared.SolveAnswer.{SolveAnswer}
-use Rattle.planner.specs.declared.CheckAnswer.{CheckAnswer}
+use Rattle.planner.specs.declared.After.{After}
+use Rattle.planner.specs.declared.Loaded.{Loaded}
 use Rattle.planner.specs.Link.{Link, link_of, sites_listed, terms_in_range, relined_by}
 use Rattle.room.proofs.room.Reads as Room
 use Rattle.planner.proofs.empty.Reads as Empty
@@ -65,20 +67,20 @@ in_force (c ∷ calls) = force c (in_force calls)
 pub data Runs : List Call → Planner → Type 0 where
   at_first : {p : Planner} → Empty.Post tt tt p tt → Runs [] p
   loads :
-      {calls : List Call} {p : Planner} (κs : Lfts 1) (file last : Bor (List ℕ)) (r : AfterLoad) →
+      {calls : List Call} {p : Planner} (κs : Lfts 1) (file last : Bor (List ℕ)) (r : After Loaded) →
       Runs calls p → Load.Post κs (p, (file, tt)) r (p, (last, tt)) → Runs (load file.now ∷ calls) r.planner
   loads_rows :
-      {calls : List Call} {p : Planner} (κs : Lfts 1) (file last : Bor (List ℕ)) (r : AfterLoad) →
+      {calls : List Call} {p : Planner} (κs : Lfts 1) (file last : Bor (List ℕ)) (r : After Loaded) →
       Runs calls p → LoadRows.Post κs (p, (file, tt)) r (p, (last, tt)) → Runs (load_rows file.now ∷ calls) r.planner
   links :
-      {calls : List Call} {p : Planner} (a b f x r : ℕ) (d : AfterLink) →
+      {calls : List Call} {p : Planner} (a b f x r : ℕ) (d : After (Unit {0})) →
       Runs calls p → LinkReads.Post tt (p, (a, (b, (f, (x, (r, tt)))))) d (p, (a, (b, (f, (x, (r, tt)))))) → Runs (link a b f x r ∷ calls) d.planner
   solves :
-      {calls : List Call} {p : Planner} (κs : Lfts 2) (cells cells' output output' : MutBor (List ℕ)) (r : SolveAnswer) →
+      {calls : List Call} {p : Planner} (κs : Lfts 2) (cells cells' output output' : MutBor (List ℕ)) (r : Result Solution Refusal) →
       Runs calls p → Solve.Post κs (p, (cells, (output, tt))) r (p, (cells', (output', tt))) → Runs (solve cells.now output.now ∷ calls) p
   checks :
-      {calls : List Call} {p : Planner} (κs : Lfts 1) (plan last : Bor (List ℕ)) (r : CheckAnswer) →
+      {calls : List Call} {p : Planner} (κs : Lfts 1) (plan last : Bor (List ℕ)) (r : Result Charge Rejection) →
       Runs calls p → Check.Post κs (p, (plan, tt)) r (p, (last, tt)) → Runs (check plan.now ∷ calls) p
   rooms :
-      {calls : List Call} {p : Planner} (κs : Lfts 1) (n s : ℕ) (pairs last : Bor (List ℕ)) (r : RoomAnswer) →
+      {calls : List Call} {p : Planner} (κs : Lfts 1) (n s : ℕ) (pairs last : Bor (List ℕ)) (r : Result Figures Refusal) →
       Runs calls p → Room.Post κs (n, (s, (pairs, tt))) r (n, (s, (last, tt))) → Runs (room n s pairs.now ∷ calls) p

@@ -1,6 +1,6 @@
 -- The section Sizes: its loop passes over every set of relations and reads an amount where the set is a subquery.
-use Prim.Native.Nat.{ℕ, ◌+◌, ◌-◌, ◌^◌, ◌<◌}
-use mathlib.Core.Path.{◌≡◌, sym, ◌∙◌}
+use Prim.Native.Nat.{ℕ, ◌+◌, ◌-◌, ◌<◌}
+use mathlib.Core.Path.{◌≡◌}
 use mathlib.Core.Bool.{Bool, true, false}
 use mathlib.Core.List.{List}
 use lib.ListN.{set}
@@ -10,7 +10,7 @@ use Rattle.relations.proofs.Loops.{few_sets}
 use Rattle.subqueries.proofs.Entries.{tested}
 use Rattle.sections.specs.Fields.{Read, refused, value, amount_up_to, items, storing}
 use Rattle.sections.proofs.Loops.{items_done, items_no, items_on}
-use Rattle.decoder.specs.Sizes.{with_number, sized}
+use Rattle.decoder.specs.Sizes.{sized}
 
 module _ (J : Joins) (n : ℕ) (answer : Read (List ℕ)) (e S : ℕ) (a l : List ℕ) (so : answer ≡ items (sized J n) (e - S) S a l) (less : S < e)
     (b : Bool) (test : b ≡ is_subquery J n S) where

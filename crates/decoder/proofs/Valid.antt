@@ -1,15 +1,13 @@
 -- Every decoded query is valid, and a file that gives none is refused with 1 to 5: the sections' ranges, in reading order, make up what a query keeps to.
 use Prim.Native.Nat.{ℕ}
 use native.Mathlib.Omega.{arith}
-use mathlib.Core.Path.{◌≡◌, sym}
 use mathlib.Core.List.{List}
 use lib.ListN.{length}
 use lib.Dec.{eqb}
 use Rattle.relations.specs.Trees.{reaches}
-use Rattle.query.specs.declared.Query.{Query}
 use Rattle.query.specs.Query.{Valid, home}
 use Rattle.query.proofs.Choice.{pick_all}
-use Rattle.sections.specs.Fields.{Read, refused, value}
+use Rattle.sections.specs.Fields.{refused}
 use Rattle.sections.specs.Sections.{sites_section, relations_section, joins_section, lines_section, delivery_section}
 use Rattle.sections.proofs.Gives.{Has, gives_then}
 use Rattle.sections.proofs.Ranges.{sites_in, relations_in, joins_in_lem, lines_in, delivery_in}
@@ -54,7 +52,3 @@ file_in f file =
 
 pub decode_valid : DecodeValid
 decode_valid f file q l e = rw e at (file_in f file)
-
--- The same of the code's answer.
-pub decoded_valid : (f : Form) (file : List ℕ) (q : Query) (l : List ℕ) → value q l ≡ decode f file → Valid q
-decoded_valid f file q l e = decode_valid f file q l (sym e)

@@ -35,6 +35,7 @@ pub fn decode(form: Form, file: &[u8]) -> Result<Decoded, Refusal>
     }
     let table = join_table(joins);
     let due = count_subqueries(joins, &table);
+    // Lent, not given back: 2 KB more by value are too much for the stack of the C call.
     let mut sizes = [0u32; SETS];
     read_by_form(form, &mut part, joins, &table, due, &mut sizes)?;
     let lines = read_lines(&mut part, sites.count)?;

@@ -1,17 +1,18 @@
 -- Readings that are local: one that ends with a value took some bytes, leaves what follows them, and would give the same value whatever followed. A field is
 -- so, and so is what is made of such readings.
-use Prim.Native.Nat.{ℕ, zero, suc, ◌+◌, ◌*◌, ◌≤◌}
+use Prim.Native.Nat.{ℕ, zero, suc, ◌≤◌}
 use native.Mathlib.Omega.{arith}
 use mathlib.Core.Path.{◌≡◌, refl, sym, ap, ◌∙◌}
 use mathlib.Core.Bool.{true, ◌&&◌}
-use mathlib.Core.List.{List, [], ◌∷◌, ◌++◌, append_assoc}
+use mathlib.Core.List.{List, [], ◌++◌, append_assoc}
 use lib.ListN.{length, take, drop, length-append, take-append-drop}
-use lib.Seq.{length-take-le, drop_at}
+use lib.Seq.{length-take-le, take_at, drop_at}
 use lib.Dec.{ltb, leb}
 use borrow.Author.Tests.{ltb-false, le-ltb}
 use Rattle.relations.proofs.Leads.{clash}
 use Rattle.query.proofs.Choice.{pick_all}
 use Rattle.sections.specs.Fields.{Read, refused, value, and_then, number, field, count_field, items, storing, section}
+use Rattle.sections.proofs.Parts.{number_taken}
 
 pub record Splits {A : Type 0} (read : List ℕ → Read A) (l : List ℕ) (a : A) (r : List ℕ) : Type 0 where
   pub used : List ℕ
@@ -30,10 +31,9 @@ came (value a m) next b r e so = so a m refl e
 
 -- The number in the first bytes does not see what follows them.
 number_again : (w : ℕ) (l x : List ℕ) → w ≤ length l → number w (take w l ++ x) ≡ number w l
-unfolding number
-number_again zero l x h = refl
-number_again (suc w) [] x h = absurd (omega arith)
-number_again (suc w) (b ∷ l) x h = ap (λ (v : ℕ). b + 256 * v) (number_again w l x (omega arith))
+number_again w l x h =
+    let size : length (take w l) ≡ w = length-take-le w l h in
+    sym (number_taken w (take w l ++ x) (omega (arith, length-append (take w l) x))) ∙ ap (number w) (take_at (take w l) x w size) ∙ number_taken w l h
 
 pub field_local : (w fault low high : ℕ) → Local (field w fault low high)
 unfolding field

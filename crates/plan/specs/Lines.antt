@@ -4,6 +4,8 @@ use Rattle.std.proofs.Math.Option.{none}
 use Rattle.planner.specs.State.{State}
 use Rattle.planner.specs.Load as Load
 use Rattle.planner.specs.Solve as Solve
+use Rattle.planner.specs.Code.{of_solve}
+use Rattle.plan.specs.declared.listing.Listing.{Listing}
 
 -- A plan that was found is listed: the first byte of the output counts its steps. No route and a refusal are one line.
 abbrev pub on_solved : Solve.Answer → (output : List ℕ) → ℕ
@@ -23,3 +25,7 @@ on_loaded (Load.refused k) s = 1
 -- The file is loaded on an empty planner.
 unfoldable pub lines : List ℕ → ℕ
 lines file = on_loaded (Load.load file none).answer (Load.load file none).next
+
+-- How many lines the code's listing has.
+abbrev pub lines_of : Listing → ℕ
+lines_of l = on_solved (of_solve l.answer) l.output

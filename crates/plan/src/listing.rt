@@ -1,117 +1,97 @@
 // The listing of a query file's answer, as rule 10.2 has it: in decimal, a line for the answer and one for each step.
-// It ends at the first write that fails. What the lines say is held to stored outputs.
-ghost use Rattle.std.specs.Prelude.{◌+◌, ◌<◌, ◌≡◌, get_or};
-ghost use Rattle.planner.specs.Code.{state_of, Sound};
-ghost use Rattle.plan.specs.Lines.{lines, lines_solved};
+ghost use Rattle.std.specs.Prelude.{◌≡◌, Some};
+ghost use Rattle.plan.specs.Lines.{lines, lines_of};
+ghost use Rattle.plan.specs.Text.{step_text, steps_text, text};
 
-use planner::{CELLS, LONGEST_PLAN, LoadAnswer, Planner, SolveAnswer};
-use relations::wide;
+use planner::{CELLS, LONGEST_PLAN, Refusal, Solution};
+use std::fmt;
 
-// How many lines a listing has, and whether all of them were written.
+// What is listed: the answer, and the output that a plan stands in.
 #[derive(Clone, Copy)]
-pub(crate) struct Listed {
-    pub lines: usize,
-    pub written: bool,
+pub(crate) struct Listing {
+    answer: Result<Solution, Refusal>,
+    output: [u8; LONGEST_PLAN],
 }
 
-// A word, a number and what stands behind it.
-fn put(out: &impl Print, word: &[u8], n: u64, end: &[u8]) -> bool {
-    out.write_all(word).is_ok() && out.print(n).is_ok() && out.write_all(end).is_ok()
+// A step of a plan, as it stands in the output.
+#[derive(Clone, Copy)]
+struct Step {
+    kind: u8,
+    arg: u8,
 }
 
-// `refused 4`
-fn refused(out: &impl Print, number: u64) -> Listed
-    ensures { result.lines ≡ 1 }
-{
-    Listed {
-        lines: 1,
-        written: put(out, b"refused ", number, b"\n"),
-    }
-}
+// `load 0`, `send 2` or `join 1`
+impl fmt::Display for Step {
+    ghost output = { λ s. Some (step_text s.kind s.arg) };
 
-// `no route trials 3`
-fn no_route(out: &impl Print, trials: u64) -> Listed
-    ensures { result.lines ≡ 1 }
-{
-    Listed {
-        lines: 1,
-        written: put(out, b"no route trials ", trials, b"\n"),
-    }
-}
-
-// `load 0`, `send 2`, `join 1`
-fn step(out: &impl Print, kind: u8, arg: u8) -> bool {
-    let n = arg as u64;
-    match kind {
-        1 => put(out, b"load ", n, b"\n"),
-        2 => put(out, b"send ", n, b"\n"),
-        _ => put(out, b"join ", n, b"\n"),
-    }
-}
-
-// The byte at a place, 0 past the end.
-fn byte_at(plan: &[u8], i: usize) -> u8 {
-    if i < plan.len() { plan[i] } else { 0 }
-}
-
-// The steps of a plan, so many of them.
-fn steps(out: &impl Print, plan: &[u8], count: usize) -> bool
-    requires { count < 256 }
-{
-    let mut i = 0;
-    while i < count {
-        if !step(out, byte_at(plan, 1 + 2 * i), byte_at(plan, 2 + 2 * i)) {
-            return false;
+    fn fmt<W: fmt::Write>(&self, f: &mut fmt::Formatter<W>) -> fmt::Result {
+        let arg = self.arg;
+        match self.kind {
+            1 => write!(f, "load {arg}"),
+            2 => write!(f, "send {arg}"),
+            _ => write!(f, "join {arg}"),
         }
-        i += 1;
-    }
-    true
-}
-
-// `plan 4 cost 21 trials 3`, then each step. The plan is a count byte and its steps.
-fn plan(out: &impl Print, plan: &[u8; LONGEST_PLAN], cost: u64, trials: u64) -> Listed
-    ensures { result.lines ≡ 1 + get_or plan.now 0 0 }
-{
-    let count = wide(plan[0]);
-    let first = put(out, b"plan ", count as u64, b"")
-        && put(out, b" cost ", cost, b"")
-        && put(out, b" trials ", trials, b"\n");
-    Listed {
-        lines: 1 + count,
-        written: first && steps(out, plan, count),
     }
 }
 
-// Solves the standing query, and lists the plan that is found.
-fn solve(out: &impl Print, p: Planner) -> Listed
-    requires { Sound p }
-    ensures { result.lines ≡ lines_solved (state_of p) }
-{
-    let mut cells = [0u64; CELLS];
-    let mut bytes = [0u8; LONGEST_PLAN];
-    let a = planner::solve(p, &mut cells, &mut bytes);
-    match a {
-        SolveAnswer::Refused(k) => refused(out, k),
-        SolveAnswer::NoRoute { trials } => no_route(out, trials),
-        SolveAnswer::Found {
-            cost,
-            length: _,
-            trials,
-        } => plan(out, &bytes, cost.0, trials),
+// So many steps of a plan.
+#[derive(Clone, Copy)]
+struct Steps<'a> {
+    count: u8,
+    bytes: &'a [u8],
+}
+
+// Each is a line.
+impl fmt::Display for Steps<'_> {
+    ghost output = { λ s. Some (steps_text s.count s.bytes.now) };
+
+    fn fmt<W: fmt::Write>(&self, f: &mut fmt::Formatter<W>) -> fmt::Result {
+        for step in self.bytes.chunks_exact(2).take(usize::from(self.count)) {
+            let step = Step {
+                kind: step[0],
+                arg: step[1],
+            };
+            writeln!(f, "{step}")?;
+        }
+        Ok(())
     }
 }
 
-// Prints the cheapest plan of a query file, no route, or the refusal.
-pub(crate) fn list(out: &impl Print, file: &[u8]) -> Listed
-    ensures { result.lines ≡ lines file.now }
+// `plan 4 cost 21 trials 3` and the steps, `no route trials 3` or `refused 4`.
+impl fmt::Display for Listing {
+    ghost output = { text };
+
+    fn fmt<W: fmt::Write>(&self, f: &mut fmt::Formatter<W>) -> fmt::Result {
+        match self.answer {
+            Err(refusal) => writeln!(f, "{refusal}"),
+            Ok(Solution::NoRoute { trials }) => writeln!(f, "no route trials {trials}"),
+            Ok(
+                Solution::Found {
+                    cost,
+                    length: _,
+                    trials,
+                },
+            ) => {
+                let (count, cost) = (self.output[0], cost.0);
+                let steps = Steps {
+                    count,
+                    bytes: &self.output[1..],
+                };
+                write!(f, "plan {count} cost {cost} trials {trials}\n{steps}")
+            }
+        }
+    }
+}
+
+// The cheapest plan of a query file, no route, or the refusal.
+pub(crate) fn list(file: &[u8]) -> Listing
+    ensures { lines_of result ≡ lines file.now }
 {
+    let mut output = [0u8; LONGEST_PLAN];
     let loaded = planner::load(planner::empty(), file);
-    let a = loaded.answer;
-    match a {
-        LoadAnswer::Refused(k) => refused(out, k),
-        LoadAnswer::Loaded {
-            relations: _,
-            subqueries: _,
-        } => solve(out, loaded.planner),
-    }
+    let answer = match loaded.answer {
+        Ok(_) => planner::solve(loaded.planner, &mut [0u64; CELLS], &mut output),
+        Err(refusal) => Err(refusal),
+    };
+    Listing { answer, output }
 }

@@ -11,8 +11,7 @@ fn main(rt: HostRuntime) {
     // A file has at most 1,674 bytes, so the front of a longer input decides: whatever follows Delivery is refused by its first byte.
     let mut file = [0u8; 4096];
     let n = read_full(&mut rt.stdin(), &mut file);
-    let listed = listing::list(&rt, &file[..n]);
-    if !listed.written {
+    if rt.print(listing::list(&file[..n])).is_err() {
         let _ = eprintln!(rt; "plan: the listing was not written");
     }
 }

@@ -1,18 +1,17 @@
 -- The areas that solve needs: that the code works out the cells from what the load counted, that more cells change nothing and fewer are refused, and
 -- what solve comes to with enough.
-use Prim.Native.Nat.{ℕ, ◌+◌, ◌*◌, ◌≤◌, ◌<◌}
+use Rattle.std.proofs.Common.{Option, Some, None}
+use Prim.Native.Nat.{ℕ, ◌+◌, ◌*◌, ◌≤◌}
 use native.Mathlib.Omega.{arith}
 use mathlib.Core.Path.{◌≡◌, refl, sym, ◌∙◌}
-use mathlib.Core.Bool.{Bool, true, false}
 use mathlib.Core.List.{List, ◌++◌}
 use mathlib.Core.Option.{none, some}
 use lib.ListN.{length, drop}
 use lib.Dec.{ltb}
 use mir.Syntax.{w64}
 use mir.Val.{Fits}
-use borrow.Author.Tests.{lt-ltb, le-ltb, not-true, not-false}
+use borrow.Author.Tests.{lt-ltb, le-ltb}
 use Rattle.query.specs.declared.Query.{Query}
-use Rattle.query.specs.Choice.{pick}
 use Rattle.query.specs.Cost.{Cost}
 use Rattle.query.specs.Query.{sites_of}
 use Rattle.query.proofs.Choice.{pick_all}
@@ -21,56 +20,29 @@ use Rattle.tables.specs.Written.{written}
 use Rattle.tables.specs.Work.{cells_needed, most_cells}
 use Rattle.tables.proofs.Work.{most_cells_lem}
 use Rattle.planner.specs.declared.Planner.{Planner}
+use Rattle.planner.specs.declared.Standing.{Standing}
 use Rattle.planner.specs.State.{State}
-use Rattle.planner.specs.Solve.{found, refused, Solving, solving_of, writing, solved, solve, used, needed, solve_needed, EnoughLaw}
-use Rattle.planner.specs.Code.{state_of, Sound}
+use Rattle.planner.specs.Solve.{found, refused, Solving, solving_of, writing, solved, solve, needed, solve_needed, EnoughLaw}
+use Rattle.planner.specs.Code.{stands_in, state_of}
 
 -- The code's constant `CELLS`.
 abbrev pub ample_cells : ℕ
 ample_cells = most_cells
 
 -- What the code multiplies is the need, which is no more than the most.
-module _ (p : Planner) (sound : Sound p) where
-  pub need_none : p.loaded ≡ false → 0 ≡ needed (state_of p)
-  need_none e = rw e
+pub need_fits : (s : Standing) → Fits w64 (s.subqueries * sites_of s.query)
+unfolding cells_needed
+need_fits s =
+    let same : s.subqueries * sites_of s.query ≡ cells_needed s.query = rw s.counted in
+    record { fits = omega (arith, same, most_cells_lem s.query s.valid) }
 
-  pub need_is : p.loaded ≡ true → p.subqueries * sites_of p.query ≡ needed (state_of p)
-  unfolding cells_needed
-  need_is e = rw (e, sound.counted e)
+-- So many are enough whatever stands.
+stands_most : (o : Option Standing) → needed (stands_in o) ≤ ample_cells
+stands_most None = omega arith
+stands_most (Some s) = most_cells_lem s.query s.valid
 
-  -- So many are enough whatever stands.
-  pub needed_most : needed (state_of p) ≤ ample_cells
-  needed_most = go p.loaded refl
-    where
-      go : (b : Bool) → p.loaded ≡ b → needed (pick b (some p.query) none) ≤ ample_cells
-      go true e = most_cells_lem p.query (sound.valid e)
-      go false e = omega arith
-
-  pub needed_enough : (n : ℕ) → ample_cells ≤ n → needed (state_of p) ≤ n
-  needed_enough n h = omega (arith, needed_most)
-
-  pub need_fits : p.loaded ≡ true → Fits w64 (p.subqueries * sites_of p.query)
-  need_fits e = record { fits = omega (arith, need_is e, needed_most) }
-
-pub ruleset needing = (not-true, not-false, need_none, need_is, need_fits)
-
--- The code's test against the need m is that of the standing query's cells.
-module _ (p : Planner) (n m : ℕ) (loaded : p.loaded ≡ true) (need : m ≡ needed (state_of p)) where
-  here : m ≡ cells_needed p.query
-  here = rw loaded at need
-
-  pub cells_few : n < m → n < cells_needed p.query
-  cells_few h = omega (arith, here)
-
-  pub cells_enough : m ≤ n → cells_needed p.query ≤ n
-  cells_enough h = omega (arith, here)
-
--- Where solve goes on, the cells that it uses are those that it needs.
-pub cells_later :
-    (p : Planner) (new old : List ℕ) → p.loaded ≡ true → cells_needed p.query ≤ length old →
-    drop (cells_needed p.query) new ≡ drop (cells_needed p.query) old →
-    drop (used (state_of p) (length old)) new ≡ drop (used (state_of p) (length old)) old
-cells_later p new old loaded enough e = rw (loaded, le-ltb (length old) (cells_needed p.query) enough) e
+pub needed_enough : (p : Planner) (n : ℕ) → ample_cells ≤ n → needed (state_of p) ≤ n
+needed_enough p n h = omega (arith, stands_most p.standing)
 
 -- With cells enough solve comes to what the query costs.
 pub solve_is : (s : State) (q : Query) (n : ℕ) (out : List ℕ) → s ≡ some q → cells_needed q ≤ n → solve n out s ≡ solved q (cheapest ◌+◌ q) out

@@ -1,9 +1,7 @@
-pub mod Standing
+pub mod Sound
 pub mod Loading
-pub mod Linking
 pub mod Cells
 pub mod Again
 pub mod Admitted
 pub mod Solving
-pub mod Checking
 pub mod Worked

@@ -1,140 +1,46 @@
--- One law for each way through solve: what the tests and the solver's answer make of the call's definition.
-use Prim.Native.Nat.{ℕ, ◌+◌, ◌≤◌, ◌<◌}
+-- A plan that the solver finds lies whole in its array, and is what its front has.
+use Prim.Native.Nat.{ℕ, ◌+◌, ◌≤◌}
 use native.Mathlib.Omega.{arith}
-use mathlib.Core.Path.{◌≡◌, refl, sym, ◌∙◌}
-use mathlib.Core.Bool.{true, false}
-use mathlib.Core.List.{List, ◌++◌}
+use mathlib.Core.Path.{◌≡◌, sym, ◌∙◌}
+use mathlib.Core.List.{List}
 use lib.ListN.{length, take, drop}
 use lib.Seq.{length-take-le, take-append_seam}
-use borrow.Author.Tests.{lt-ltb, not-true, not-false}
 use Rattle.query.specs.declared.Query.{Query}
 use Rattle.query.specs.declared.Charge.{Charge}
 use Rattle.query.specs.Cost.{Cost, none, some}
 use Rattle.query.specs.Query.{Valid}
 use Rattle.rules.specs.Allowed.{longest_plan}
+use Rattle.rules.proofs.Combinations.{plus_combines}
 use Rattle.solver.specs.declared.Solution.{Solution}
-use Rattle.solver.specs.declared.Solution.TheVariants.{Found, NoRoute}
+use Rattle.solver.specs.declared.Solution.TheVariants.{Found}
+use Rattle.solver.specs.Solution.{solution_of, plan_after}
 use Rattle.tables.specs.Tables.{cheapest, trials}
 use Rattle.tables.specs.Written.{written}
-use Rattle.tables.specs.Work.{cells_needed}
-use Rattle.solver.specs.Solution.{solution_of, plan_after}
 use Rattle.tables.proofs.Upper.{written_most}
-use Rattle.rules.proofs.Combinations.{plus_combines}
-use Rattle.planner.specs.declared.Planner.{Planner}
-use Rattle.planner.specs.Solve.{found, no_route, refused, solving_of, solved, solve}
-use Rattle.planner.specs.Code.{state_of}
-use Rattle.planner.proofs.Standing.{standing_valid}
-use Rattle.planner.proofs.Cells.{cells_few, cells_enough, cells_later, solve_is, writing_fits}
 
-module _ (p : Planner) (n : ℕ) (out : List ℕ) where
-  pub solve_nothing : p.loaded ≡ false → solving_of (refused 20) out ≡ solve n out (state_of p)
-  unfolding solve
-  solve_nothing e = rw e
-
-  pub solve_few : p.loaded ≡ true → n < cells_needed p.query → solving_of (refused 21) out ≡ solve n out (state_of p)
-  unfolding solve
-  solve_few e h = rw (e, lt-ltb n (cells_needed p.query) h)
-
--- The solver's answer by what the query costs.
 module _ (q : Query) (c : Charge) (l t : ℕ) where
-  is_found : (x : Cost) → solution_of q x ≡ Found c l t → x ≡ some c.0
-  is_found none e = absurd (let z : ◌≡◌ {A = ℕ} 0 1 = cc in omega arith)
-  is_found (some d) e = cc
+  -- By what the query costs.
+  found_by : (x : Cost) → solution_of q x ≡ Found c l t → (x ≡ some c.0) × (l ≡ length (written ◌+◌ q)) × (t ≡ trials q)
+  found_by none e = absurd (let z : ◌≡◌ {A = ℕ} 0 1 = cc in omega arith)
+  found_by (some d) e = (cc, cc, cc)
 
-  found_length : (x : Cost) → solution_of q x ≡ Found c l t → l ≡ length (written ◌+◌ q)
-  found_length none e = absurd (let z : ◌≡◌ {A = ℕ} 0 1 = cc in omega arith)
-  found_length (some d) e = cc
+  module _ (r : Solution) (answer : r ≡ solution_of q (cheapest ◌+◌ q)) (is : r ≡ Found c l t) where
+    pub found_is : (cheapest ◌+◌ q ≡ some c.0) × (l ≡ length (written ◌+◌ q)) × (t ≡ trials q)
+    found_is = found_by (cheapest ◌+◌ q) (sym answer ∙ is)
 
-  found_trials : (x : Cost) → solution_of q x ≡ Found c l t → t ≡ trials q
-  found_trials none e = absurd (let z : ◌≡◌ {A = ℕ} 0 1 = cc in omega arith)
-  found_trials (some d) e = cc
+    -- It is no longer than a plan may be.
+    pub found_short : Valid q → l ≤ longest_plan
+    found_short valid = rw found_is.1 (written_most ◌+◌ plus_combines q valid c.0 found_is.0)
 
-is_none : (q : Query) (t : ℕ) (x : Cost) → solution_of q x ≡ NoRoute t → x ≡ none
-is_none q t none e = refl
-is_none q t (some d) e = absurd (let z : ◌≡◌ {A = ℕ} 0 1 = cc in omega arith)
+    -- As the solver leaves its array.
+    module _ (plan old : List ℕ) (left : plan ≡ plan_after (cheapest ◌+◌ q) (written ◌+◌ q) old) where
+      pub found_front : (take l plan ≡ written ◌+◌ q) × (cheapest ◌+◌ q ≡ some c.0) × (l ≡ length (written ◌+◌ q)) × (t ≡ trials q)
+      found_front =
+          let f = found_is in
+          (rw (left, f.0, f.1) (take-append_seam (written ◌+◌ q) (drop (length (written ◌+◌ q)) old)), f.0, f.1, f.2)
 
-none_trials : (q : Query) (t : ℕ) (x : Cost) → solution_of q x ≡ NoRoute t → t ≡ trials q
-none_trials q t none e = cc
-none_trials q t (some d) e = absurd (let z : ◌≡◌ {A = ℕ} 0 1 = cc in omega arith)
+      -- As many bytes of an output that has room.
+      pub found_alike : (out : List ℕ) → l ≤ length out → length (take l out) ≡ length (take l plan)
+      found_alike out h = let f = found_front in length-take-le l out h ∙ rw f.0 f.2
 
--- Copying all of a plan puts it at the front.
-put_front : (l : ℕ) (k plan out new : List ℕ) → k ≡ plan → l ≡ length plan → new ≡ k ++ drop l out → new ≡ plan ++ drop (length plan) out
-put_front l k plan out new e long w = rw (w, e, long)
-
-module _
-    (p : Planner) (s : Solution) (n : ℕ) (out : List ℕ) (loaded : p.loaded ≡ true) (enough : cells_needed p.query ≤ n)
-    (answer : s ≡ solution_of p.query (cheapest ◌+◌ p.query))
-  where
-    goes : solve n out (state_of p) ≡ solved p.query (cheapest ◌+◌ p.query) out
-    goes = solve_is (state_of p) p.query n out (rw loaded) enough
-
-    pub solve_no_route : (t : ℕ) → s ≡ NoRoute t → solving_of (no_route t) out ≡ solve n out (state_of p)
-    solve_no_route t is =
-        let same = sym answer ∙ is in
-        rw (goes, is_none p.query t (cheapest ◌+◌ p.query) same, none_trials p.query t (cheapest ◌+◌ p.query) same)
-
-    -- A plan is found.
-    module _ (c : Charge) (l t : ℕ) (is : s ≡ Found c l t) where
-      same : solution_of p.query (cheapest ◌+◌ p.query) ≡ Found c l t
-      same = sym answer ∙ is
-
-      costs : cheapest ◌+◌ p.query ≡ some c.0
-      costs = is_found p.query c l t (cheapest ◌+◌ p.query) same
-
-      long : l ≡ length (written ◌+◌ p.query)
-      long = found_length p.query c l t (cheapest ◌+◌ p.query) same
-
-      pub solve_short : length out < l → solving_of (refused 23) out ≡ solve n out (state_of p)
-      solve_short h = rw (goes, costs, ← long, lt-ltb (length out) l h)
-
-      -- Its bytes are the front of the solver's array, which is copied to the front of the output.
-      front : (plan old : List ℕ) → plan ≡ plan_after (cheapest ◌+◌ p.query) (written ◌+◌ p.query) old → take l plan ≡ written ◌+◌ p.query
-      front plan old e = rw (e, costs, long) (take-append_seam (written ◌+◌ p.query) (drop (length (written ◌+◌ p.query)) old))
-
-      pub solve_found :
-          (plan old new : List ℕ) → plan ≡ plan_after (cheapest ◌+◌ p.query) (written ◌+◌ p.query) old → l ≤ length out →
-          new ≡ take l plan ++ drop l out → solving_of (found c.0 l t) new ≡ solve n out (state_of p)
-      solve_found plan old new e h w =
-          rw (
-            goes,
-            costs,
-            writing_fits c.0 (trials p.query) (written ◌+◌ p.query) out (rw long at h),
-            put_front l (take l plan) (written ◌+◌ p.query) out new (front plan old e) long w,
-            found_trials p.query c l t (cheapest ◌+◌ p.query) same,
-            long,
-          )
-
--- A plan that was found is no longer than a plan may be, so that it lies whole in the array, and fits where there is room for it.
-module _ (q : Query) (valid : Valid q) (s : Solution) (answer : s ≡ solution_of q (cheapest ◌+◌ q)) (c : Charge) (l t : ℕ) (is : s ≡ Found c l t) where
-  pub found_short : l ≤ longest_plan
-  found_short =
-      let same = sym answer ∙ is in
-      rw (found_length q c l t (cheapest ◌+◌ q) same) (written_most ◌+◌ plus_combines q valid c.0 (is_found q c l t (cheapest ◌+◌ q) same))
-
-  module _ (plan : List ℕ) (room : length plan ≡ longest_plan) where
-    pub found_whole : l ≤ length plan
-    found_whole = omega (arith, found_short)
-
-    pub found_long : l ≡ length (take l plan)
-    found_long = rw (length-take-le l plan found_whole)
-
-    pub found_alike : (out : List ℕ) → l ≤ length out → length (take l out) ≡ length (take l plan)
-    found_alike out h = length-take-le l out h ∙ found_long
-
-pub ruleset solving = (
-  not-true,
-  not-false,
-  solve_nothing,
-  solve_few,
-  solve_no_route,
-  solve_short,
-  solve_found,
-  found_short,
-  found_whole,
-  found_long,
-  found_alike,
-  cells_few,
-  cells_enough,
-  cells_later,
-  standing_valid,
-)
+pub ruleset solving = (found_short, found_front, found_alike)

@@ -1,3 +1,4 @@
+pub mod Counted
 pub mod State
 pub mod Done
 pub mod Load

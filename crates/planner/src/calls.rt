@@ -1,29 +1,25 @@
 // The calls but for the loads. The state goes in by value; link, which may change it, hands it back, and a refusal hands back what came in.
-ghost use Rattle.std.specs.Prelude.{◌≤◌, ◌<◌, ◌≡◌, length, drop};
+ghost use Rattle.std.specs.Prelude.{◌<◌, ◌≡◌, length, drop};
 ghost use Rattle.std.proofs.Math.Option.{none};
-ghost use Rattle.planner.specs.Link.{link, link_of, sites_listed, terms_in_range, relined_by};
+ghost use Rattle.query.specs.Terms.{relined};
+ghost use Rattle.planner.specs.Link.{link, link_of, sites_listed, terms_in_range};
 ghost use Rattle.planner.specs.Solve.{solving_of, solve, used, needed};
 ghost use Rattle.planner.specs.Check.{check};
-ghost use Rattle.planner.specs.Code.{state_of, done_of, of_link, of_solve, of_check, Sound};
+ghost use Rattle.planner.specs.Code.{state_of, done_of, of_link, of_solve, of_check};
 
-use crate::{AfterLink, CheckAnswer, LONGEST_PLAN, LinkAnswer, Planner, SolveAnswer};
-use query::Query;
-use rules::Checked;
+use crate::{After, LONGEST_PLAN, Planner, Refusal, Rejection, Solution, Standing};
+use query::{Charge, Query, Terms};
 use sections::{MOST_FIXED, MOST_RATE};
-use solver::Solution;
 
 // The empty planner: nothing stands.
 pub fn empty() -> Planner
-    ensures { (state_of result ≡ none) × Sound result }
+    ensures { state_of result ≡ none }
 {
-    Planner {
-        loaded: false,
-        query: query::no_query(),
-        subqueries: 0,
-    }
+    Planner { standing: None }
 }
 
 // The two sites of a link are listed, and are two.
+#[tactic(auto, unfolding(crate::specs::Link::sites_listed))]
 fn sites_listed(s: u64, sender: u64, receiver: u64) -> bool
     ensures { result ≡ sites_listed s sender receiver }
 {
@@ -31,121 +27,102 @@ fn sites_listed(s: u64, sender: u64, receiver: u64) -> bool
 }
 
 // The terms of a link are in range.
+#[tactic(auto, unfolding(crate::specs::Link::terms_in_range))]
 fn terms_in_range(opened: u64, fixed: u64, rate: u64) -> bool
     ensures { result ≡ terms_in_range (record { flag = opened; fixed = fixed; rate = rate }) }
 {
     (opened <= 1) & (fixed <= MOST_FIXED) & (rate <= MOST_RATE)
 }
 
-// The query with the line from the sender to the receiver replaced, its terms in the types that their limits fit.
-fn relined(q: Query, sender: u64, receiver: u64, opened: u64, fixed: u64, rate: u64) -> Query
-    requires listed { (sender < 8) × (receiver < 8) }
-    requires in_range { (opened ≤ 1) × (fixed ≤ 1000000) × (rate ≤ 1000) }
-    ensures { result ≡ relined_by q (link_of sender receiver opened fixed rate) }
+// The query with the line from the sender to the receiver replaced.
+fn relined(q: Query, sender: usize, receiver: usize, terms: Terms) -> Query
+    requires { (sender < 8) × (receiver < 8) }
+    ensures { result ≡ relined q sender receiver terms }
 {
-    let at = 8 * (sender as usize) + (receiver as usize);
+    let at = 8 * sender + receiver;
     let mut lines = q.lines;
-    lines.flag[at] = opened as u8;
-    lines.fixed[at] = fixed as u32;
-    lines.rate[at] = rate as u32;
+    lines.flag[at] = terms.flag;
+    lines.fixed[at] = terms.fixed;
+    lines.rate[at] = terms.rate;
     Query { lines, ..q }
 }
 
 // Link: replaces the line from the sender to the receiver.
-pub fn link(p: Planner, sender: u64, receiver: u64, opened: u64, fixed: u64, rate: u64) -> AfterLink
-    requires { Sound p }
-    ensures done { done_of (of_link result.answer) result.planner ≡ link (link_of sender receiver opened fixed rate) (state_of p) }
-    ensures sound { Sound result.planner }
+#[tactic(auto, unfolding(crate::specs::Link::link, crate::specs::Link::sites_listed, crate::specs::Link::terms_in_range))]
+pub fn link(p: Planner, sender: u64, receiver: u64, opened: u64, fixed: u64, rate: u64) -> After<()>
+    ensures { done_of (of_link result.answer) result.planner ≡ link (link_of sender receiver opened fixed rate) (state_of p) }
 {
-    if !p.loaded {
-        return AfterLink {
-            answer: LinkAnswer::Refused(20),
-            planner: p,
-        };
-    }
-    let q = p.query;
-    if !sites_listed(q.sites.count as u64, sender, receiver) {
-        return AfterLink {
-            answer: LinkAnswer::Refused(6),
-            planner: p,
-        };
+    let Some(standing) = p.standing else {
+        return After::refused(p, Refusal::NothingLoaded);
+    };
+    if !sites_listed(standing.query.sites.count as u64, sender, receiver) {
+        return After::refused(p, Refusal::LinkSites);
     }
     if !terms_in_range(opened, fixed, rate) {
-        return AfterLink {
-            answer: LinkAnswer::Refused(3),
-            planner: p,
-        };
+        return After::refused(p, Refusal::OutOfRange);
     }
-    AfterLink {
-        answer: LinkAnswer::Linked,
+    // In the types that their limits fit.
+    let terms = Terms {
+        flag: opened as u8,
+        fixed: fixed as u32,
+        rate: rate as u32,
+    };
+    let linked = Standing {
+        query: relined(standing.query, sender as usize, receiver as usize, terms),
+        subqueries: standing.subqueries,
+    };
+    After {
+        answer: Ok(()),
         planner: Planner {
-            query: relined(q, sender, receiver, opened, fixed, rate),
-            ..p
+            standing: Some(linked),
         },
     }
 }
 
 // How many cells solve needs: one for each subquery and site of the standing query, none where nothing stands.
+#[tactic(auto, unfolding(tables::specs::Work::cells_needed))]
 pub fn cells_needed(p: Planner) -> usize
-    requires { Sound p }
     ensures { result ≡ needed (state_of p) }
 {
-    if !p.loaded {
+    let Some(standing) = p.standing else {
         return 0;
-    }
-    p.subqueries * p.query.sites.count
+    };
+    standing.subqueries * standing.query.sites.count
 }
 
 // Solve: writes the cheapest plan at the front of the output and answers its cost, its length and the trials, or answers no route with the
 // trials. The plan is first written into an array of its own, so that no byte of the output is touched before it is known that it fits.
 // Of the cells those past the used ones are said to stay.
-pub fn solve(p: Planner, cells: &mut [u64], output: &mut [u8]) -> SolveAnswer
-    requires { Sound p }
+#[tactic(auto, using(crate::proofs::Solving::solving), unfolding(crate::specs::Solve::solve))]
+pub fn solve(p: Planner, cells: &mut [u64], output: &mut [u8]) -> Result<Solution, Refusal>
     ensures solved { solving_of (of_solve result) output.new ≡ solve (length cells.old) output.old (state_of p) }
     ensures later { drop (used (state_of p) (length cells.old)) cells.new ≡ drop (used (state_of p) (length cells.old)) cells.old }
 {
-    if !p.loaded {
-        return SolveAnswer::Refused(20);
-    }
+    let standing = p.standing.ok_or(Refusal::NothingLoaded)?;
     if cells.len() < cells_needed(p) {
-        return SolveAnswer::Refused(21);
+        return Err(Refusal::FewCells);
     }
     let mut plan = [0u8; LONGEST_PLAN];
-    let s = solver::solve(p.query, cells, &mut plan);
-    match s {
-        Solution::NoRoute { trials } => SolveAnswer::NoRoute { trials },
-        Solution::Found {
-            cost,
-            length,
-            trials,
-        } => {
-            if output.len() < length {
-                return SolveAnswer::Refused(23);
-            }
-            output[..length].copy_from_slice(&plan[..length]);
-            SolveAnswer::Found {
-                cost,
-                length: length as u64,
-                trials,
-            }
+    let solution = solver::solve(standing.query, cells, &mut plan);
+    if let Solution::Found { length, .. } = solution {
+        if output.len() < length {
+            return Err(Refusal::ShortOutput);
         }
+        output[..length].copy_from_slice(&plan[..length]);
     }
+    Ok(solution)
 }
 
 // Check: answers the plan's cost.
-pub fn check(p: Planner, plan: &[u8]) -> CheckAnswer
-    requires { Sound p }
+#[tactic(auto, unfolding(crate::specs::Check::check))]
+pub fn check(p: Planner, plan: &[u8]) -> Result<Charge, Rejection>
     ensures { of_check result ≡ check plan.now (state_of p) }
 {
-    if !p.loaded {
-        return CheckAnswer::Refused {
-            number: 20,
+    let Some(standing) = p.standing else {
+        return Err(Rejection {
+            refusal: Refusal::NothingLoaded,
             place: 0,
-        };
-    }
-    let c = rules::check(p.query, plan);
-    match c {
-        Checked::Accepted(cost) => CheckAnswer::Accepted { cost },
-        Checked::Rejected { number, place } => CheckAnswer::Refused { number, place },
-    }
+        });
+    };
+    rules::check(&standing.query, plan)
 }

@@ -1,14 +1,11 @@
 -- The prices' limits and laws. Each price is one fixed amount and one rate times a count of parcels or bytes, and a valid query limits both.
-use Prim.Native.Nat.{ℕ, ◌+◌, ◌-◌, ◌*◌, ◌%◌, ◌≤◌, zero-le}
-use native.Mathlib.Nat.{mul-le-mul, mul-le-mul_left, mul-le-mul_right, add_comm, le_refl, le_trans, le_antisymm}
+use Prim.Native.Nat.{ℕ, ◌+◌, ◌-◌, ◌*◌, ◌≤◌, zero-le}
+use native.Mathlib.Nat.{mul-le-mul, mul-le-mul_left, add_comm, le_refl, le_trans, le_antisymm}
 use native.Mathlib.Omega.{arith}
 use mathlib.Core.Path.{◌≡◌, refl}
 use mathlib.Core.Bool.{Bool, true, false}
 use lib.Dec.{eqb, leb}
-use mir.Syntax.{w64}
-use mir.Val.{Fits}
 use borrow.Author.Tests.{ne_eqb, eqb-false, leb-true, leb-false}
-use Rattle.relations.proofs.Leads.{clash}
 use Rattle.query.specs.declared.Query.{Query}
 use Rattle.query.specs.Choice.{pick}
 use Rattle.query.specs.Cost.{none, some}
@@ -21,24 +18,6 @@ use Rattle.query.proofs.Choice.{pick_all}
 -- A fixed amount and a rate times a count, each up to its limit.
 pub priced_most : (f r x F R X : ℕ) → f ≤ F → r ≤ R → x ≤ X → f + r * x ≤ F + R * X
 priced_most f r x F R X a b c = omega (arith, mul-le-mul b c)
-
--- A rate up to 1,000 times a count up to 3,000,000,000: their short product is the product, and fits 64 bits.
-pub short_fits : (r x : ℕ) → r ≤ 1000 → x ≤ 3000000000 → Fits w64 ((r % 4294967296) * (x % 4294967296))
-short_fits r x a b =
-    let f : r % 4294967296 ≡ r = omega arith in
-    let g : x % 4294967296 ≡ x = omega arith in
-    rw (f, g) (record { fits = omega (arith, mul-le-mul a b) })
-
-pub short_is : (r x : ℕ) → r ≤ 1000 → x ≤ 3000000000 →
-    ((r % 4294967296) * (x % 4294967296) ≡ r * x) × ((r % 4294967296) * (x % 4294967296) ≤ 1000 * x)
-short_is r x a b =
-    let f : r % 4294967296 ≡ r = omega arith in
-    let g : x % 4294967296 ≡ x = omega arith in
-    rw (f, g) (refl, mul-le-mul_right x a)
-
--- What a rate charges for the parcels that a size starts.
-pub carried_is : (r x p g : ℕ) → p ≡ parcels x → p ≤ most_parcels → g ≡ r * p → g ≤ 1_000 * p → (g ≡ r * parcels x) × (g ≤ dearest_line)
-carried_is r x p g started few charged most = (rw (charged, started), omega arith)
 
 pub parcels_law : ParcelsLaw
 unfolding parcels
@@ -138,9 +117,9 @@ unfolding sending
 sending_is q P a b c e = go (eqb a b) (is_open q a b) refl refl e
   where
     go : (s o : Bool) → eqb a b ≡ s → is_open q a b ≡ o → pick s none (pick o (some (line_price q P a b)) none) ≡ some c → Sending q P a b c
-    go true o h g e = absurd (clash (cc))
+    go true o h g e = absurd (cc)
     go false true h g e = record { away = eqb-false a b h; opened = g; price = cc }
-    go false false h g e = absurd (clash (cc))
+    go false false h g e = absurd (cc)
 
 -- No send that is a number is above the dearest line.
 pub sending_most : (q : Query) → Valid q → (P a b c : ℕ) → sending q P a b ≡ some c → c ≤ dearest_line

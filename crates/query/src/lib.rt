@@ -1,14 +1,12 @@
 // The query and its prices.
 #![tactic(auto)]
 
-mod amounts;
 mod refusal;
 mod zeros;
 
-pub use amounts::amount;
 pub use refusal::Refusal;
 use relations::{Joins, SETS};
-pub use zeros::{no_joins, no_lines, no_query, no_relations, no_sites};
+pub use zeros::{no_joins, no_lines, no_relations, no_sites};
 
 pub mod price;
 
@@ -24,7 +22,8 @@ pub struct Parcels(pub u64);
 #[derive(Clone, Copy, Default)]
 pub struct Charge(pub u64);
 
-// The sites: whether each may join (1) or not (0), and its join's fixed amount and rate.
+// The sites: whether each may join (1) or not (0), and its join's fixed amount and rate. Here and below lists of fixed length,
+// with a count where there may be fewer: memory is fixed, and every definition reads them so.
 #[derive(Clone, Copy)]
 pub struct Sites {
     pub count: usize,

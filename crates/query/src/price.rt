@@ -6,7 +6,6 @@ ghost use Rattle.query.specs.Indexed.{indexed_in};
 ghost use Rattle.query.specs.Spared.{spareable, spared};
 
 use crate::{Bytes, Charge, Parcels};
-use relations::wide;
 
 // A rate times a count of parcels or bytes: all that a line or a join charges beyond its fixed amount. Both have at most 32 bits: a short product.
 fn rated(rate: u64, count: u64) -> Charge
@@ -23,7 +22,7 @@ fn parcels(size: Bytes) -> Parcels
 {
     let bytes = size.0 as u32;
     let started = (bytes + 7) / 8;
-    Parcels(started as u64)
+    Parcels(u64::from(started))
 }
 
 // What a line charges for the parcels that a size starts.
@@ -55,7 +54,7 @@ pub fn spareable(qualifies: bool, size: Bytes) -> Bytes
 pub fn spared(one: Bytes, other: Bytes) -> Bytes
     ensures { result.0 ≡ spared one.0 other.0 }
 {
-    if one.0 <= other.0 { other } else { one }
+    Bytes(one.0.max(other.0))
 }
 
 // The reads of a join: both operands' sizes, less what is spared.
@@ -77,16 +76,13 @@ pub fn join_price(fixed: Charge, rate: u64, reads: Bytes, res: Bytes) -> Charge
 }
 
 // Whether a set at a site qualifies: it is one relation, the site is its home, and its index flag is set.
-pub fn is_indexed<'a>(home: &'a [u8], index: &'a [u8], set: usize, site: usize) -> bool
+pub fn is_indexed(home: &[u8], index: &[u8], set: usize, site: usize) -> bool
     requires { (set < most_sets) × ((9 ≤ length home.now) × (9 ≤ length index.now)) }
     ensures { result ≡ indexed_in 9 home.now index.now set site }
 {
-    if usize::count_ones(set) != 1 {
+    if set.count_ones() != 1 {
         return false;
     }
-    let r = usize::trailing_zeros(set) as usize;
-    if wide(home[r]) != site {
-        return false;
-    }
-    index[r] == 1
+    let r = set.trailing_zeros() as usize;
+    usize::from(home[r]) == site && index[r] == 1
 }

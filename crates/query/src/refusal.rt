@@ -7,21 +7,21 @@ use std::fmt;
 // Each refusal of rules 8.1 and 8.2.
 #[derive(Clone, Copy, Debug, PartialEq, Eq)]
 pub enum Refusal {
-    Cut,
-    WrongCount,
-    OutOfRange,
-    NotReached,
-    BytesFollow,
-    LinkSites,
-    PlanLength,
-    UnknownStep,
-    LoadedBefore,
-    SendNotAllowed,
-    JoinNotAllowed,
-    WrongEnd,
-    NothingLoaded,
-    FewCells,
-    ShortOutput,
+    Cut = 1,
+    WrongCount = 2,
+    OutOfRange = 3,
+    NotReached = 4,
+    BytesFollow = 5,
+    LinkSites = 6,
+    PlanLength = 7,
+    UnknownStep = 8,
+    LoadedBefore = 9,
+    SendNotAllowed = 10,
+    JoinNotAllowed = 11,
+    WrongEnd = 12,
+    NothingLoaded = 20,
+    FewCells = 21,
+    ShortOutput = 23,
 }
 
 impl Refusal {
@@ -30,23 +30,7 @@ impl Refusal {
         ensures value { result ≡ number_of self }
         ensures small { result ≤ 23 }
     {
-        match self {
-            Refusal::Cut => 1,
-            Refusal::WrongCount => 2,
-            Refusal::OutOfRange => 3,
-            Refusal::NotReached => 4,
-            Refusal::BytesFollow => 5,
-            Refusal::LinkSites => 6,
-            Refusal::PlanLength => 7,
-            Refusal::UnknownStep => 8,
-            Refusal::LoadedBefore => 9,
-            Refusal::SendNotAllowed => 10,
-            Refusal::JoinNotAllowed => 11,
-            Refusal::WrongEnd => 12,
-            Refusal::NothingLoaded => 20,
-            Refusal::FewCells => 21,
-            Refusal::ShortOutput => 23,
-        }
+        self as u64
     }
 }
 

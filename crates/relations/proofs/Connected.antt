@@ -16,7 +16,7 @@ use Rattle.relations.specs.Growth.{first, second, grow, Closed}
 use Rattle.relations.specs.Trees.{is_subquery, Subquery, reaches, Tree}
 use Rattle.relations.proofs.Bits.{bit_le, bit_less, bit_pow, bit_all, le_of_sub, sub_single, sub_antisym, pow_cases}
 use Rattle.relations.proofs.Counts.{lowest_in}
-use Rattle.relations.proofs.Leads.{both_true, true_both}
+use Rattle.relations.proofs.Leads.{both_true}
 use Rattle.relations.proofs.Growth.{grow_has, grow_within, grow_least, grow_closed}
 
 -- S has a relation, and a closed set with one of its relations holds all of them.
@@ -73,9 +73,7 @@ pub of_conn : (J : Joins) (n S : ℕ) → S < 2 ^ n → Conn J S → Subquery J 
 unfolding is_subquery
 of_conn J n S h c =
     let some = conn_pos J S c in
-    true_both (ltb 0 S && ltb S (2 ^ n)) (eqb (grow J S J.count n (2 ^ lowest n S)) S)
-    (true_both (ltb 0 S) (ltb S (2 ^ n)) (lt-ltb 0 S some) (lt-ltb S (2 ^ n) h))
-    (eq-eqb (grow J S J.count n (2 ^ lowest n S)) S (conn_grow J n S (lowest n S) h c (lowest_in n S some h)))
+    cc (lt-ltb 0 S some, lt-ltb S (2 ^ n) h, eq-eqb (grow J S J.count n (2 ^ lowest n S)) S (conn_grow J n S (lowest n S) h c (lowest_in n S some h)))
 
 -- One relation is connected, and so are all relations of a tree.
 pub conn_single : (J : Joins) (r : ℕ) → Conn J (2 ^ r)

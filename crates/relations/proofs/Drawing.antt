@@ -1,4 +1,4 @@
--- What drawn joins and the test of the tree show: a tree, ends in range, and sets that growth may start from.
+-- What drawn joins and the test of the tree show: a tree, and sets that growth may start from.
 use Prim.Native.Nat.{ℕ, ◌+◌, ◌^◌, ◌<◌}
 use mathlib.Core.Path.{◌≡◌, refl, sym, ◌∙◌, subst}
 use mathlib.Core.Bool.{Bool, true}
@@ -7,7 +7,6 @@ use native.Mathlib.Omega.{arith}
 use lib.ListN.{take}
 use Rattle.relations.specs.declared.Joins.{Joins}
 use Rattle.relations.specs.Sets.{Sub, all}
-use Rattle.relations.specs.Growth.{first, second}
 use Rattle.relations.specs.Trees.{reaches, Tree}
 use Rattle.relations.specs.Code.{Drawn, EndsOf, ends_of, Growable}
 use Rattle.relations.proofs.Bits.{bit_all, sub_single, all_below}
@@ -15,10 +14,6 @@ use Rattle.relations.proofs.Listed.{listed_front}
 
 pub tree_of : (J : Joins) (t : Bool) → Drawn J → t ≡ reaches J (J.count + 1) → t ≡ true → Tree J (J.count + 1)
 tree_of J t d q h = record { joins = refl; first_in = d.first_in; second_in = d.second_in; reached = sym q ∙ h }
-
--- The relations of a join are bits of a word.
-pub ends_low : (J : Joins) → Drawn J → (e : ℕ) → e < J.count → (first J e < 64) × (second J e < 64)
-ends_low J d e l = (omega (arith, d.few, d.first_in e l), omega (arith, d.few, d.second_in e l))
 
 -- Growth within all relations may start from each.
 pub single_growable :

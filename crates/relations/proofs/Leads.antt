@@ -17,14 +17,11 @@ pub clash : ◌≡◌ {A = ℕ} 0 1 → ⊥
 clash z = omega arith
 
 pub never_both : (t : Bool) → t ≡ true → t ≡ false → ⊥
-never_both t p q = clash (cc)
+never_both t p q = cc
 
 pub both_true : (a b : Bool) → (a && b) ≡ true → (a ≡ true) × (b ≡ true)
 both_true true b e = (refl, e)
-both_true false b e = absurd (never_both false e refl)
-
-pub true_both : (a b : Bool) → a ≡ true → b ≡ true → (a && b) ≡ true
-true_both a b p q = cc
+both_true false b e = absurd (cc)
 
 -- A join in S has both its relations there.
 pub inside_ends : (J : Joins) (S e : ℕ) → inside J S e ≡ true → (bit S (first J e) ≡ 1) × (bit S (second J e) ≡ 1)

@@ -18,7 +18,7 @@ use Rattle.relations.specs.Trees.{Tree, Subquery, is_subquery, joins_in}
 use Rattle.relations.specs.Theorems.{SubqueryByCount}
 use Rattle.relations.proofs.Bits.{bit_le, bit_sub, le_of_sub, sub_single, below_of_sub}
 use Rattle.relations.proofs.Counts.{ones_sub, lowest_in}
-use Rattle.relations.proofs.Leads.{both_true, true_both}
+use Rattle.relations.proofs.Leads.{both_true}
 use Rattle.relations.proofs.Growth.{grow_has, grow_within, grow_closed}
 use Rattle.relations.proofs.Connected.{conn_seed, of_conn, subquery_range, enough}
 use Rattle.relations.proofs.Trees.{held, held_both, held_less}
@@ -112,7 +112,6 @@ same_test false false f g = refl
 pub subquery_by_count : SubqueryByCount
 subquery_by_count J n t S h =
     same_test (is_subquery J n S) (ltb 0 S && eqb (joins_in J S J.count + 1) (ones S))
-    (λ s. true_both (ltb 0 S) (eqb (joins_in J S J.count + 1) (ones S)) (lt-ltb 0 S (subquery_range J n S s).0)
-    (eq-eqb (joins_in J S J.count + 1) (ones S) (joins_count J n t S s)))
+    (λ s. cc (lt-ltb 0 S (subquery_range J n S s).0, eq-eqb (joins_in J S J.count + 1) (ones S) (joins_count J n t S s)))
     (λ s. let both = both_true (ltb 0 S) (eqb (joins_in J S J.count + 1) (ones S)) s in
     subquery_of_count J n t S h (ltb-true 0 S both.0) (eqb-true (joins_in J S J.count + 1) (ones S) both.1))

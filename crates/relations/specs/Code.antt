@@ -33,6 +33,10 @@ ends_of J e = put (2 ^ first J e) (second J e)
 abbrev pub EndsOf : Joins → List ℕ → ℕ → Type 0
 EndsOf J l m = Listed l (ends_of J) 8 m
 
+-- The first relation of each of the first m joins, as a set.
+abbrev pub FirstsOf : Joins → List ℕ → ℕ → Type 0
+FirstsOf J l m = Listed l (λ (e : ℕ). 2 ^ first J e) 8 m
+
 -- The ends M lead out of A within S: they lie in S, and A has one of them and not both.
 unfoldable pub leads_out : (M S A : ℕ) → Bool
 leads_out M S A = (eqb (bit_and S M) M && not (eqb (bit_and A M) 0)) && not (eqb (bit_and A M) M)

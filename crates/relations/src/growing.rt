@@ -26,7 +26,7 @@ fn first_leading(ends: &[usize], set: usize, skip: Option<usize>, taken: usize) 
     None
 }
 
-// What the taken relations grow to within a set, skipping a join or none.
+// What the taken relations grow to within a set, skipping a join or none. Recursive, by rule 13.2.
 pub(crate) fn grow(ends: &[usize], set: usize, skip: Option<usize>, taken: usize) -> usize
     requires { (J : Joins) × Growable J ends.now set taken }
     ensures { (J : Joins) → Growable J ends.now set taken → result ≡ grow J set (unwrap_or skip J.count) (J.count + 1) taken }

@@ -8,18 +8,17 @@ mod masks;
 mod member;
 mod splitting;
 mod tree;
-mod widening;
 
 pub use masks::ends;
 pub use member::{bit, single, whole, within};
 pub use splitting::{Parts, split};
 pub use tree::{reaches, sides};
-pub use widening::wide;
 
 // How many sets of relations arrays over sets have room for: those of nine relations.
 pub const SETS: usize = 512;
 
-// The joins of a query: join e links relations first[e] and second[e], for e below count.
+// The joins of a query: join e links relations first[e] and second[e], for e below count. Lists with a count, since memory is
+// fixed, and every definition reads them so.
 #[derive(Clone, Copy)]
 pub struct Joins {
     pub count: usize,

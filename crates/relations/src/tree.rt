@@ -5,7 +5,7 @@ ghost use Rattle.relations.specs.Code.{Drawn, SidesOf};
 
 use crate::Joins;
 use crate::growing::grow;
-use crate::masks::ends;
+use crate::masks::{ends, firsts};
 use crate::member::{single, whole};
 
 // The joins reach every relation from relation 0.
@@ -18,17 +18,17 @@ pub fn reaches(joins: Joins) -> bool
     grow(&around[..joins.count], every, None, single(0)) == every
 }
 
-// The side of each join.
+// The side of each join. A loop, since `array::from_fn` would be asked at once for every place that growth may start there.
 pub fn sides(joins: Joins) -> [usize; 8]
     requires { Drawn joins }
     ensures { SidesOf joins result joins.count }
 {
     let every = whole(joins.count + 1);
     let around = ends(joins);
+    let from = firsts(joins);
     let mut found = [0; 8];
     for e in 0..joins.count {
-        let from = single(usize::from(joins.first[e]));
-        found[e] = grow(&around[..joins.count], every, Some(e), from);
+        found[e] = grow(&around[..joins.count], every, Some(e), from[e]);
     }
     found
 }

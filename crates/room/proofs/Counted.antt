@@ -20,7 +20,6 @@ use Rattle.subqueries.proofs.Entries.{tested}
 use Rattle.sizing.proofs.Products.{product_word}
 use Rattle.tables.specs.Tables.{joins_below}
 use Rattle.tables.proofs.Trials.{joins_none, joins_next, joins_below_lem}
-use Rattle.room.specs.Room.{figures, figures_of}
 
 -- A set that is not empty has a relation.
 pub some_ones : (S o : ℕ) → o ≡ ones S → 1 ≤ S → 1 ≤ o

@@ -101,7 +101,7 @@ module _ (b : List ℕ) (size t : ℕ) where
     here = found.rows.each i k (omega arith) low
 
     pub searching_more : (get_or table (8 * i + k) 0 ≡ c → ⊥) → (i + 1 < s) × ((new : List ℕ) → SendsAdded b size i table new s → Searching k (i + 1) new)
-    searching_more other = (more, λ new a. record { listed = more; rows = routes_more b size t i table new few (omega (arith, more)) found.rows a; dearer = λ j h. last j (eq-or-lt_of_le (le_of_suc-le-suc (rw (add-one i) at h))) })
+    searching_more other = (more, λ new a. record { listed = more; rows = routes_more b size t i (i + 1) table new refl few (omega (arith, more)) found.rows a; dearer = λ j h. last j (eq-or-lt_of_le (le_of_suc-le-suc (rw (add-one i) at h))) })
       where
         not_here : by_sends_in b size t i k ≡ carriage_in b size k t → ⊥
         not_here e = other (here ∙ e ∙ sym carried.is)

@@ -58,9 +58,6 @@ module _ (b : List ℕ) (size t : ℕ) where
     pub chosen_some : (site_in row b size t < s) × (row (site_in row b size t) + carriage_in b size (site_in row b size t) t ≡ figure)
     chosen_some = let found = least_at (site_trial row b size t) s (omega arith) in (found.0, sym (at_site (site_in row b size t)) ∙ found.1 ∙ sym is)
 
-    pub some_within : s ≤ 8 → (k : ℕ) × ((k < 8) × (row k ≤ figure))
-    some_within few = (site_in row b size t, (omega (arith, chosen_some.0), omega (arith, chosen_some.1)))
-
     pub site_chosen : (k : ℕ) → k ≡ site_in row b size t → (k < s) × (row k ≤ figure)
     site_chosen k e = rw e (chosen_some.0, omega (arith, chosen_some.1))
 

@@ -1,10 +1,9 @@
 -- Where the least of some figures stands: at its place, and nowhere before it; so the first place that has it is its place.
-use Prim.Native.Nat.{ℕ, zero, suc, ◌+◌, ◌≤◌, ◌<◌}
+use Prim.Native.Nat.{ℕ, zero, suc, ◌≤◌, ◌<◌}
 use native.Mathlib.Nat.{le_refl, le_of_suc-le-suc, eq-or-lt_of_le}
-use native.Mathlib.Numerals.{add-one}
-use native.Mathlib.Decide.{ℕ_discrete, dec_lt}
+use native.Mathlib.Decide.{dec_lt}
 use native.Mathlib.Omega.{arith}
-use mathlib.Core.Path.{◌≡◌, refl, ap}
+use mathlib.Core.Path.{◌≡◌, refl}
 use mathlib.Core.Bool.{Bool, true, false}
 use mathlib.Core.Logic.{◌⊎◌, inl, inr}
 use lib.Dec.{ltb}
@@ -68,17 +67,3 @@ place_first g m k low is some before = go (dec_lt (place_of g m) k) (dec_lt k (p
     go (yes l) d = absurd (omega (arith, before (place_of g m) l, found))
     go (no l) (yes d) = absurd (omega (arith, place_lowest g m k d))
     go (no l) (no d) = omega arith
-
--- The lowest place within a figure: one more that is not, as long as a later one is.
-pub within_more : (row : ℕ → ℕ) (figure k j n : ℕ) → j < n → row j ≤ figure → ((i : ℕ) → i < k → figure < row i) → figure < row k →
-    (k + 1 < n) × ((i : ℕ) → i < k + 1 → figure < row i)
-within_more row figure k j n low is before here = (go (dec_lt j k) (ℕ_discrete j k), λ i h. last i (eq-or-lt_of_le (le_of_suc-le-suc (rw (add-one k) at h))))
-  where
-    go : Dec (j < k) → Dec (j ≡ k) → k + 1 < n
-    go (yes l) d = absurd (omega (arith, before j l))
-    go (no l) (yes e) = absurd (let same : row j ≡ row k = ap row e in omega arith)
-    go (no l) (no d) = omega arith
-
-    last : (i : ℕ) → (i ≡ k) ⊎ (i < k) → figure < row i
-    last i (inl e) = rw e here
-    last i (inr l) = before i l

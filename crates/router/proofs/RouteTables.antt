@@ -9,7 +9,7 @@ use mathlib.Core.List.{List, [], ◌∷◌, ◌++◌}
 use lib.Dec.{eqb}
 use lib.ListN.{length, get_or, set, length-set, replicate, get_or-replicate}
 use lib.Seq.{get_or-set_same, get_or-set_other}
-use borrow.Author.Count.{below_none, below_more}
+use borrow.Author.Count.{below_more}
 use borrow.Author.Tests.{eq-eqb, ne_eqb}
 use Rattle.query.specs.Choice.{pick}
 use Rattle.board.specs.declared.figures.Choice.{Choice}
@@ -30,9 +30,6 @@ figured_set table j v f h = record { long = length-set table j v ∙ f.long; mos
     go i low (no d) = rw (get_or-set_other table j i v 0 d) (f.most i low)
 
 module _ (b : List ℕ) (size i : ℕ) (old : List ℕ) where
-  pub added_none : Figured old → SendsAdded b size i old old 0
-  added_none f = record { figured = f; before = λ j h. refl; each = below_none _ }
-
   pub added_more : (new : List ℕ) (k v : ℕ) → SendsAdded b size i old new k → k < 8 → i < 7 → sites_at b ≤ 8 →
       v ≡ least_of (first_to b size k (λ (m : ℕ). get_or new (8 * i + m) 0)) (sites_at b) → SendsAdded b size i old (set new (8 * (i + 1) + k) v) (k + 1)
   added_more new k v a low few sites is =
@@ -45,9 +42,6 @@ module _ (b : List ℕ) (size i : ℕ) (old : List ℕ) where
             (get_or-set_same new (8 * (i + 1) + k) v 0 (omega (arith, a.figured.long)) ∙ is
             ∙ least_same _ _ (sites_at b) (λ m h. rw (a.before (8 * i + m) (omega arith))));
       }
-
-  pub added_done : (new : List ℕ) (k s : ℕ) → SendsAdded b size i old new k → s ≤ k → SendsAdded b size i old new s
-  added_done new k s a h = record { figured = a.figured; before = a.before; each = λ u l. a.each u (omega arith) }
 
 module _ (b : List ℕ) (size t : ℕ) where
   pub routes_none : t < 8 → sites_at b ≤ 8 → RoutesTo b size t 1 (set (replicate 64 none_mark) t 0)
@@ -66,17 +60,17 @@ module _ (b : List ℕ) (size t : ℕ) where
       row zero k h l d = let at : 8 * 0 + k ≡ k = omega arith in ap (λ (j : ℕ). get_or (set (replicate 64 none_mark) t 0) j 0) at ∙ lane k l d
       row (suc i) k h l d = absurd (omega arith)
 
-  pub routes_more : (i : ℕ) (old new : List ℕ) → sites_at b ≤ 8 → i < 7 → RoutesTo b size t (i + 1) old → SendsAdded b size i old new (sites_at b) → RoutesTo b size t (i + 1 + 1) new
+  pub routes_more : (i n : ℕ) (old new : List ℕ) → n ≡ i + 1 → sites_at b ≤ 8 → i < 7 → RoutesTo b size t n old → SendsAdded b size i old new (sites_at b) → RoutesTo b size t (n + 1) new
   unfolding by_sends_in
-  routes_more i old new few low r a =
+  routes_more i n old new next few low r a =
       record {
         figured = a.figured;
-        each = λ j k h l. below_more (λ (j : ℕ). (k : ℕ) → k < sites_at b → get_or new (8 * j + k) 0 ≡ by_sends_in b size t j k) (i + 1)
+        each = λ j k h l. below_more (λ (j : ℕ). (k : ℕ) → k < sites_at b → get_or new (8 * j + k) 0 ≡ by_sends_in b size t j k) n
             (λ j h k l. a.before (8 * j + k) (omega arith) ∙ r.each j k h l) last j h k l;
       }
     where
-      last : (k : ℕ) → k < sites_at b → get_or new (8 * (i + 1) + k) 0 ≡ by_sends_in b size t (i + 1) k
-      last k l = a.each k l ∙ rw (add-one i) (least_same _ _ (sites_at b) (λ m h. rw (r.each i m (omega arith) h)))
+      last : (k : ℕ) → k < sites_at b → get_or new (8 * n + k) 0 ≡ by_sends_in b size t n k
+      last k l = let here : get_or new (8 * n + k) 0 ≡ least_of (first_to b size k (λ (m : ℕ). get_or old (8 * i + m) 0)) (sites_at b) = rw next (a.each k l) in here ∙ rw (next, add-one i) (least_same _ _ (sites_at b) (λ m h. rw (r.each i m (omega arith) h)))
 
   pub routes_done : (m n : ℕ) (table : List ℕ) → n ≤ m → RoutesTo b size t m table → RoutesTo b size t n table
   routes_done m n table h r = record { figured = r.figured; each = λ i k l low. r.each i k (omega arith) low }

@@ -15,9 +15,6 @@ sets_append l i (x ∷ xs) ys = let e : i + suc (length xs) ≡ suc i + length x
 pub wrote_none : (l : List ℕ) (at : ℕ) → Wrote l at [] at l
 wrote_none l at = record { next = omega arith; stored = refl }
 
-pub wrote_two : (l : List ℕ) (at a b : ℕ) → Wrote l at (a ∷ (b ∷ [])) (at + 2) (set (set l at a) (at + 1) b)
-wrote_two l at a b = record { next = refl; stored = rw (add-one at) }
-
 pub wrote_then : (l m n xs ys zs : List ℕ) (at r s : ℕ) → Wrote l at xs r m → Wrote m r ys s n → zs ≡ xs ++ ys → Wrote l at zs s n
 wrote_then l m n xs ys zs at r s w x is =
     rw is

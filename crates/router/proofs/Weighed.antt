@@ -1,8 +1,7 @@
 -- The turns of a choice are over: it is one among all; and one among the figures of a table of routes is one among the routes.
-use Prim.Native.Nat.{ℕ, ◌+◌, ◌*◌, ◌≤◌, ◌<◌}
-use native.Mathlib.Nat.{le_antisymm}
+use Prim.Native.Nat.{ℕ, ◌+◌, ◌*◌, ◌<◌}
 use native.Mathlib.Numerals.{add-one}
-use mathlib.Core.Path.{◌≡◌, refl, ap, subst, ◌∙◌}
+use mathlib.Core.Path.{◌≡◌, refl, ap, ◌∙◌}
 use mathlib.Core.List.{List}
 use lib.ListN.{get_or}
 use Rattle.board.specs.declared.figures.Choice.{Choice}
@@ -20,19 +19,12 @@ pub least_more : (g : ℕ → ℕ) (m kept made : ℕ) → kept ≡ least_of g m
 unfolding least_of
 least_more g m kept made is made-is = made-is ∙ rw (add-one m, is)
 
-pub least_done : (g : ℕ → ℕ) (k s m least : ℕ) → least ≡ least_of g k → k ≤ s → s ≤ k → s ≡ m → least ≡ least_of g m
-least_done g k s m least h le ge is = h ∙ ap (least_of g) (le_antisymm le ge ∙ is)
-
--- The last turn.
-pub choice_done : (g : ℕ → ℕ) (k s m : ℕ) (c : Choice) → ChoiceOf g k c → k ≤ s → s ≤ k → s ≡ m → ChoiceOf g m c
-choice_done g k s m c h le ge is = subst (λ (n : ℕ). ChoiceOf g n c) (le_antisymm le ge ∙ is) h
-
 -- The sites, one after the other, by the table of the routes to t.
-pub sites_weighed : (row : ℕ → ℕ) (b : List ℕ) (size t k s : ℕ) (table : List ℕ) (c : Choice) → RoutesTo b size t (sites_at b) table → k ≤ s → s ≤ k → s ≡ sites_at b →
-    ChoiceOf (λ (j : ℕ). row j + least_of (λ (i : ℕ). get_or table (8 * i + j) 0) (sites_at b)) k c → ChoiceOf (site_trial row b size t) (sites_at b) c
+pub sites_weighed : (row : ℕ → ℕ) (b : List ℕ) (size t s : ℕ) (table : List ℕ) (c : Choice) → RoutesTo b size t (sites_at b) table → s ≡ sites_at b →
+    ChoiceOf (λ (j : ℕ). row j + least_of (λ (i : ℕ). get_or table (8 * i + j) 0) (sites_at b)) s c → ChoiceOf (site_trial row b size t) (sites_at b) c
 unfolding site_trial carriage_in
-sites_weighed row b size t k s table c r le ge is chosen =
-    let all : ChoiceOf (λ (j : ℕ). row j + least_of (λ (i : ℕ). get_or table (8 * i + j) 0) (sites_at b)) (sites_at b) c = choice_done _ k s (sites_at b) c chosen le ge is in
+sites_weighed row b size t s table c r is chosen =
+    let all = rw is at chosen in
     let same : (j : ℕ) → j < sites_at b → row j + least_of (λ (i : ℕ). get_or table (8 * i + j) 0) (sites_at b) ≡ row j + least_of (λ (i : ℕ). by_sends_in b size t i j) (sites_at b) =
     λ j h. ap (λ (x : ℕ). row j + x) (least_same _ _ (sites_at b) (λ i l. r.each i j l h)) in
     record { figure_is = all.figure_is ∙ least_same _ _ (sites_at b) same; at_is = all.at_is ∙ place_same _ _ (sites_at b) same }

@@ -1,12 +1,12 @@
 // Where a subquery is joined for delivery at a site, by what it has cost at each site and what it costs there.
-ghost use Rattle.std.specs.Prelude.{ℕ, ◌+◌, ◌^◌, ◌≤◌, ◌<◌, ◌≡◌, get_or};
+ghost use Rattle.std.specs.Prelude.{ℕ, ◌+◌, ◌^◌, ◌≤◌, ◌<◌, ◌≡◌, get_or, MatchOption};
 ghost use Rattle.board.specs.Figures.{none_mark, least_of, ChoiceOf, Marked};
 ghost use Rattle.board.specs.Board.{sites_at};
 ghost use Rattle.sender.specs.Delivering.{Carriable};
 ghost use Rattle.router.specs.Routing.{site_trial, SiteFor, once_sent};
 
-use crate::routing::{carriage, routes_to};
-use board::{BOARD, Choice, NONE, better, sites_of};
+use crate::routing::{carriage, least_at, routes_to};
+use board::{BOARD, Choice, sites_of};
 use query::Bytes;
 use sender::line_at;
 
@@ -18,29 +18,15 @@ fn best_site(board: &[u64; BOARD], row: &[u64; 8], size: Bytes, t: usize) -> Cho
     ensures { ChoiceOf (site_trial (λ (k : ℕ). get_or row.now k 0) board.now size.0 t) (sites_at board.now) result }
 {
     let table = routes_to(board, size, t);
-    let sites = sites_of(board);
-    let mut best = Choice {
-        figure: NONE,
-        at: 0,
-    };
-    let mut k = 0;
-    while k < sites {
-        best = better(row[k] + carriage(board, &table, k), k, best);
-        k += 1;
-    }
-    best
+    least_at(sites_of(board), |k| row[k] + carriage(board, &table, k))
 }
 
 // The lowest site at which a row has no more than a figure.
-fn first_within(row: &[u64; 8], figure: u64) -> usize
-    requires { (k : ℕ) × ((k < 8) × (get_or row.now k 0 ≤ figure)) }
-    ensures { ((result < 8) × (get_or row.now result 0 ≤ figure)) × ((k : ℕ) → k < result → figure < get_or row.now k 0) }
+fn first_within(row: &[u64; 8], figure: u64) -> Option<usize>
+    ensures { MatchOption result ((k : ℕ) → k < 8 → figure < get_or row.now k 0)
+        (λ at. ((at < 8) × (get_or row.now at 0 ≤ figure)) × ((k : ℕ) → k < at → figure < get_or row.now k 0)) }
 {
-    let mut low = 0;
-    while figure < row[low] {
-        low += 1;
-    }
-    low
+    row.iter().position(|spent| *spent <= figure)
 }
 
 // What it costs to have a size at t from k with at most one send.
@@ -62,13 +48,14 @@ pub fn site_for(board: &[u64; BOARD], row: &[u64; 8], size: Bytes, t: usize, fig
     requires least { (figure ≡ least_of (site_trial (λ (k : ℕ). get_or row.now k 0) board.now size.0 t) (sites_at board.now)) × (figure < none_mark) }
     ensures { SiteFor (λ (k : ℕ). get_or row.now k 0) board.now size.0 t figure result }
 {
-    let k = first_within(row, figure);
-    let sent = once_sent(board, size, k, t);
-    if row[k] + sent == figure {
-        return Choice {
-            figure: sent,
-            at: k,
-        };
+    if let Some(k) = first_within(row, figure) {
+        let sent = once_sent(board, size, k, t);
+        if row[k] + sent == figure {
+            return Choice {
+                figure: sent,
+                at: k,
+            };
+        }
     }
     let best = best_site(board, row, size, t);
     let at = best.at;

@@ -22,9 +22,9 @@ pub fn put(out: &mut [u8], at: usize, kind: u8, arg: usize) -> usize
 }
 
 // Writes i sends from k on to t, by the table of routes to t.
-fn put_sends<'a>(
-    board: &'a [u64; BOARD],
-    table: &'a [u64; ROUTES],
+fn put_sends(
+    board: &[u64; BOARD],
+    table: &[u64; ROUTES],
     out: &mut [u8],
     at: usize,
     size: Bytes,
@@ -40,8 +40,8 @@ fn put_sends<'a>(
         return at;
     }
     let next = next_site(board, table, size, i - 1, k);
-    let place = put(&mut *out, at, 2, next.at);
-    put_sends(board, table, &mut *out, place, size, t, next.at, i - 1)
+    let place = put(out, at, 2, next.at);
+    put_sends(board, table, out, place, size, t, next.at, i - 1)
 }
 
 // Writes the sends of the cheapest route from k to t, whose carriage is known: with one send more each turn until that is what they cost.
@@ -87,7 +87,7 @@ pub fn put_route(
     }
     let sent = line_at(board, size, k, t);
     if sent.0 == carried {
-        return put(&mut *out, at, 2, t);
+        return put(out, at, 2, t);
     }
-    put_detour(board, &mut *out, at, size, k, t, carried)
+    put_detour(board, out, at, size, k, t, carried)
 }

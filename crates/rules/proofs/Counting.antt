@@ -1,11 +1,11 @@
 -- A run keeps count of its steps and with it its room: a load brings a relation that was not loaded, a send adds at most the dearest line to a
 -- figure, and a join at most the dearest join to a combination, which is no more than the sum.
-use Prim.Native.Nat.{ℕ, suc, ◌+◌, ◌^◌, ◌≤◌, ◌<◌}
+use Prim.Native.Nat.{ℕ, suc, ◌+◌, ◌^◌, ◌<◌}
 use mathlib.Core.Path.{◌≡◌}
 use mathlib.Core.List.{List, ◌∷◌}
 use native.Mathlib.Omega.{arith}
 use lib.Count.{ones-le}
-use lib.Pow.{pow_pos, pow_mono, pow-lt}
+use lib.Pow.{pow_pos, pow-lt}
 use Rattle.relations.specs.Sets.{bit}
 use Rattle.relations.proofs.Bits.{single_apart}
 use Rattle.relations.proofs.Counts.{ones_more}
@@ -28,20 +28,6 @@ pub start_room : (n : ℕ) → Room n 0 start
 start_room n =
     let none = ones-le 0 0 (pow_pos 0) in
     record { in_all = pow_pos n; parts = omega arith; joins = 0; sends = 0; held = omega arith; steps = omega arith; small = omega arith; sited = tt }
-
--- Room for some relations and steps is room for more.
-pub wider : (n n' i i' : ℕ) (m : Machine) → Room n i m → n ≤ n' → i ≤ i' → Room n' i' m
-wider n n' i i' m room l k =
-    record {
-      in_all = omega (arith, pow_mono l);
-      parts = room.parts;
-      joins = room.joins;
-      sends = room.sends;
-      held = room.held;
-      steps = omega arith;
-      small = room.small;
-      sited = room.sited;
-    }
 
 module _ (combine : ℕ → ℕ → ℕ) (laws : Combines combine) (q : Query) (v : Valid q) where
   rooms : (i : ℕ) → Cases combine q (λ m o p. Room (relations_of q) i m → Holds (Room (relations_of q)) (suc i) o)

@@ -6,6 +6,4 @@ pub mod Invariants
 pub mod Kept
 pub mod Runs
 pub mod Counting
-pub mod Stacks
-pub mod Rooms
 pub mod Checking

@@ -36,6 +36,7 @@ pub enum Origin {
 }
 
 // A held result: its set of relations, the site where it stands, what it is, and what it has cost so far.
+// That the site is below eight stands in `Room`: a ghost field would ask it of the rules' own results too, which are made of any query.
 #[derive(Clone, Copy, Default)]
 pub struct Held {
     pub set: usize,

@@ -1,6 +1,5 @@
 // What a send and a join make of the held results, with their prices.
-ghost use Rattle.std.specs.Prelude.{◌+◌, ◌*◌, ◌^◌, ◌≤◌, ◌<◌, ◌≡◌};
-ghost use Rattle.relations.specs.Code.{most_sets};
+ghost use Rattle.std.specs.Prelude.{◌+◌, ◌^◌, ◌≤◌, ◌<◌, ◌≡◌};
 ghost use Rattle.query.specs.Query.{Valid, relations_of, size};
 ghost use Rattle.query.specs.Prices.{join_price, dearest_join};
 ghost use Rattle.rules.specs.Machine.{bare_of, qualifies, sent_to, join_of};
@@ -11,22 +10,25 @@ use query::{Bytes, Charge, Query, price};
 use relations::single;
 
 // The size of a set.
+#[tactic(auto, unfolding(query::specs::Query::size))]
 fn size(q: &Query, set: usize) -> Bytes
-    requires { Valid q.now × (set < most_sets) }
+    requires { Valid q.now × (set < 2 ^ relations_of q.now) }
     ensures { (result.0 ≡ size q.now set) × (result.0 ≤ 1000000000) }
 {
     Bytes(u64::from(q.sizes[set]))
 }
 
 // The price of joining a and b, at the site of both.
+#[tactic(auto, using(query::proofs::Prices::reads_spared), unfolding(query::specs::Prices::join_price, query::specs::Query::join_fixed, query::specs::Query::join_rate))]
 fn join_price(q: &Query, a: Held, b: Held) -> Charge
     requires { Valid q.now × (b.site < 8) × (a.set + b.set < 2 ^ relations_of q.now) }
     ensures { (result.0 ≡ join_price q.now b.site (qualifies q.now a) a.set (qualifies q.now b) b.set) × (result.0 ≤ dearest_join) }
 {
     let x = size(q, a.set);
     let y = size(q, b.set);
-    let spared = price::spared(price::spareable(a.qualifies(q), x), price::spareable(b.qualifies(q), y));
-    let read = price::reads(x, y, spared);
+    let one = price::spareable(a.qualifies(q), x);
+    let other = price::spareable(b.qualifies(q), y);
+    let read = price::reads(x, y, price::spared(one, other));
     let result = size(q, a.set + b.set);
     let fixed = Charge(u64::from(q.sites.fixed[b.site]));
     price::join_price(fixed, u64::from(q.sites.rate[b.site]), read, result)
@@ -34,6 +36,7 @@ fn join_price(q: &Query, a: Held, b: Held) -> Charge
 
 impl Held {
     // Relation r at its home, as it is loaded.
+    #[tactic(auto, unfolding(query::specs::Query::home))]
     pub(crate) fn bare(q: &Query, r: usize) -> Held
         requires { Valid q.now × (r < relations_of q.now) }
         ensures { result ≡ bare_of q.now r }
@@ -47,16 +50,19 @@ impl Held {
     }
 
     // Its index can be followed.
+    #[tactic(auto, using(query::proofs::Indexed::indexed_in_lem), unfolding(crate::specs::Machine::qualifies))]
     fn qualifies(self, q: &Query) -> bool
         requires { Valid q.now × (self.set < 2 ^ relations_of q.now) }
         ensures { result ≡ qualifies q.now self }
     {
-        self.origin == Origin::Bare && price::is_indexed(&q.relations.home, &q.relations.index, self.set, self.site)
+        self.origin == Origin::Bare
+            && price::is_indexed(&q.relations.home, &q.relations.index, self.set, self.site)
     }
 
     // What is sent, as it arrives at t.
+    #[tactic(auto, unfolding(query::specs::Prices::line_price, query::specs::Query::line_fixed, query::specs::Query::line_rate))]
     pub(crate) fn sent(self, q: &Query, t: usize) -> Held
-        requires { Valid q.now × (t < 8) × (self.site < 8) × (self.set < most_sets) × (self.figure.0 < 2 ^ 62) }
+        requires { Valid q.now × (t < 8) × (self.site < 8) × (self.set < 2 ^ relations_of q.now) × (self.figure.0 < 2 ^ 62) }
         ensures { result ≡ sent_to q.now t self }
     {
         let line = 8 * self.site + t;

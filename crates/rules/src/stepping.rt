@@ -11,6 +11,7 @@ use query::{Query, Refusal};
 use relations::bit;
 
 // A result may be sent to t: it stands elsewhere, and the line is open.
+#[tactic(auto, unfolding(query::specs::Query::is_open))]
 fn may_send(q: &Query, top: Held, t: usize) -> bool
     requires { (top.site < 8) × (t < 8) }
     ensures { result ≡ (not (eqb top.site t) && is_open q.now top.site t) }
@@ -19,6 +20,7 @@ fn may_send(q: &Query, top: Held, t: usize) -> bool
 }
 
 // Join e has one end in each of two sets.
+#[tactic(auto, unfolding(crate::specs::Machine::links))]
 fn links(q: &Query, e: usize, p: usize, r: usize) -> bool
     requires { e < 8 }
     ensures { result ≡ links q.now.joins e p r }
@@ -29,6 +31,7 @@ fn links(q: &Query, e: usize, p: usize, r: usize) -> bool
 }
 
 // a and b may be joined by e: they stand at one site that may join, with one end of e in each.
+#[tactic(auto, unfolding(query::specs::Query::may_join))]
 fn may_join(q: &Query, a: Held, b: Held, e: usize) -> bool
     requires { (b.site < 8) × (e < 8) }
     ensures { result ≡ ((eqb a.site b.site && may_join q.now b.site) && links q.now.joins e a.set b.set) }
@@ -36,6 +39,7 @@ fn may_join(q: &Query, a: Held, b: Held, e: usize) -> bool
     a.site == b.site && q.sites.may[b.site] == 1 && links(q, e, a.set, b.set)
 }
 
+// Each step asks for room. It is no invariant of the state alone: it tells of the query and of how many steps were taken.
 impl State {
     // Nothing is loaded and nothing held.
     pub(crate) fn start() -> State
@@ -48,6 +52,7 @@ impl State {
     }
 
     // 1, load r: puts r, at its home, on top. Each relation at most once.
+    #[tactic(auto, unfolding(crate::specs::Machine::load))]
     fn load(&mut self, q: &Query, r: usize) -> Result<(), Refusal>
         requires { Valid q.now × Room (relations_of q.now) most_steps (machine_of self.old) }
         ensures outcome { outcome_of result self.new ≡ load q.now r (machine_of self.old) }
@@ -66,6 +71,7 @@ impl State {
     }
 
     // 2, send to t: moves the top to t.
+    #[tactic(auto, unfolding(crate::specs::Machine::send, crate::specs::Machine::send_top))]
     fn send(&mut self, q: &Query, t: usize) -> Result<(), Refusal>
         requires { Valid q.now × Room (relations_of q.now) most_steps (machine_of self.old) }
         ensures outcome { outcome_of result self.new ≡ send q.now t (machine_of self.old) }
@@ -74,19 +80,17 @@ impl State {
         if q.sites.count <= t {
             return Err(Refusal::UnknownStep);
         }
-        let [.., top] = self.held.as_slice() else {
-            return Err(Refusal::SendNotAllowed);
+        let top = match self.held.as_slice() {
+            [.., top] if may_send(q, *top, t) => *top,
+            _ => return Err(Refusal::SendNotAllowed),
         };
-        let top = *top;
-        if !may_send(q, top, t) {
-            return Err(Refusal::SendNotAllowed);
-        }
         self.held.pop();
         self.held.push(top.sent(q, t));
         Ok(())
     }
 
     // 3, join e: the top two become one.
+    #[tactic(auto, unfolding(crate::specs::Machine::join, crate::specs::Machine::join_top))]
     fn join(&mut self, q: &Query, e: usize) -> Result<(), Refusal>
         requires { Valid q.now × Room (relations_of q.now) most_steps (machine_of self.old) }
         ensures outcome { outcome_of result self.new ≡ join ◌+◌ q.now e (machine_of self.old) }
@@ -95,13 +99,10 @@ impl State {
         if q.joins.count <= e {
             return Err(Refusal::UnknownStep);
         }
-        let [.., a, b] = self.held.as_slice() else {
-            return Err(Refusal::JoinNotAllowed);
+        let (a, b) = match self.held.as_slice() {
+            [.., a, b] if may_join(q, *a, *b, e) => (*a, *b),
+            _ => return Err(Refusal::JoinNotAllowed),
         };
-        let (a, b) = (*a, *b);
-        if !may_join(q, a, b, e) {
-            return Err(Refusal::JoinNotAllowed);
-        }
         self.held.pop();
         self.held.pop();
         self.held.push(Held::joined(q, a, b));
@@ -109,6 +110,7 @@ impl State {
     }
 
     // A step by its kind and argument. Refusal 8: unknown kind, or argument not in the query.
+    #[tactic(auto, unfolding(crate::specs::Machine::step))]
     pub(crate) fn step(&mut self, q: &Query, bytes: [u8; 2]) -> Result<(), Refusal>
         requires { Valid q.now × Room (relations_of q.now) most_steps (machine_of self.old) }
         ensures outcome { outcome_of result self.new ≡ step ◌+◌ q.now (get_or bytes 0 0) (get_or bytes 1 0) (machine_of self.old) }

@@ -5,4 +5,3 @@ pub mod Reading
 pub mod Loops
 pub mod Pairs
 pub mod LineLaws
-pub mod Kept

@@ -1,11 +1,13 @@
 -- What each item and each section holds once it is read: every number is in its range, and an item uses its nine or two bytes. Each field read is in
 -- range, and each item keeps the ranges of what its section has so far.
-use Prim.Native.Nat.{ℕ, ◌-◌, ◌*◌, ◌≤◌}
+use Prim.Native.Nat.{ℕ, ◌+◌, ◌-◌, ◌*◌, ◌≤◌}
 use native.Mathlib.Omega.{arith}
+use mathlib.Core.Path.{◌≡◌}
 use mathlib.Core.List.{List}
 use lib.Seq.{drop-drop}
 use lib.Dec.{eqb}
 use Rattle.relations.specs.declared.Joins.{Joins}
+use Rattle.relations.specs.Code.{Drawn}
 use Rattle.query.specs.declared.Sites.{Sites}
 use Rattle.query.specs.declared.Relations.{Relations}
 use Rattle.query.specs.declared.Lines.{Lines}
@@ -15,7 +17,7 @@ use Rattle.query.specs.Zeros.{no_sites, no_relations, no_joins, no_lines}
 use Rattle.query.proofs.Limits.{set_up_to, zeros_up_to}
 use Rattle.query.proofs.Linked.{Fair, LinesIn, with_line_lem}
 use Rattle.query.proofs.Choice.{pick_all}
-use Rattle.sections.specs.Fields.{field}
+use Rattle.sections.specs.Fields.{value, field}
 use Rattle.sections.specs.declared.items.Two.{Two}
 use Rattle.sections.specs.Sections.{terms, two, with_site, sites_section, with_relation, relations_section}
 use Rattle.sections.specs.Sections.{with_join, joins_section, line, sender, lines_section, delivery_section}
@@ -80,6 +82,12 @@ joins_in_lem n =
       firsts = set_up_to _ a.first i _ b.0 h.firsts;
       seconds = set_up_to _ a.second i _ b.1 h.seconds;
     })
+
+-- Joins that were read can be grown along.
+pub joins_drawn : (n : ℕ) → (1 ≤ n) × (n ≤ 9) → (l r : List ℕ) (J : Joins) → value J r ≡ joins_section n l → Drawn J × (J.count + 1 ≡ n)
+joins_drawn n b l r J e =
+    let k : JoinsIn n J = rw (← e) at (joins_in_lem n l) in
+    (record { few = omega (arith, k.counts); first_in = λ i h. omega (arith, k.counts, k.firsts i); second_in = λ i h. omega (arith, k.counts, k.seconds i) }, omega (arith, k.counts))
 
 line_keeps : (a b : ℕ) (ls : Lines) (l : List ℕ) → LinesIn ls → Has LinesIn (line a b ls l)
 unfolding line

@@ -87,7 +87,7 @@ impl<'a> Part<'a> {
         Ok(v as u8)
     }
 
-    // An amount up to a limit.
+    // An amount up to a limit. It and the next are one line each over `field`, since the rules name both.
     pub fn amount_up_to(&mut self, limit: u64) -> Result<u32, Refusal>
         ensures { read_of result self.new ≡ amount_up_to limit self.old }
     {

@@ -1,4 +1,5 @@
 // The sections Sites, Relations and Delivery, each read from the part of the file that starts where the last one ended.
+// Loops over items differ in what an item is and in where it goes: one loop over a closure for both would be no shorter.
 ghost use Rattle.std.specs.Prelude.{◌≤◌, ◌≡◌, IfOk};
 ghost use Rattle.sections.specs.Sections.{sites_section, relations_section, delivery_section};
 ghost use Rattle.sections.specs.Code.{read_of};

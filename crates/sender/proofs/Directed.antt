@@ -5,7 +5,7 @@ use native.Mathlib.Nat.{le_refl, le_of_suc-le-suc, eq-or-lt_of_le, add-mul, mul-
 use native.Mathlib.Numerals.{add-one}
 use native.Mathlib.Decide.{ℕ_discrete, dec_lt}
 use native.Mathlib.Omega.{arith}
-use mathlib.Core.Path.{◌≡◌, refl, ap}
+use mathlib.Core.Path.{◌≡◌, ap}
 use mathlib.Core.Logic.{◌⊎◌, inl, inr}
 use mathlib.Core.List.{List}
 use lib.ListN.{get_or}
@@ -15,7 +15,7 @@ use Rattle.board.specs.Board.{line_fixed_at, line_rate_at, sites_at}
 use Rattle.sender.specs.Rows.{TriedAt}
 use Rattle.sender.specs.Delivering.{line_in, Between, DeliveredFrom}
 use Rattle.sender.specs.Detours.{Direct}
-use Rattle.sender.proofs.Sent.{sent_is, sent_most, between_more, between_none}
+use Rattle.sender.proofs.Sent.{sent_is, sent_most, between_more}
 
 -- A line costs no less than its fixed amount, and no more than a way of two lines of which it has no more in either part.
 line_least : (b : List ℕ) (size a t : ℕ) → line_fixed_at b a t ≤ line_in b size a t
@@ -77,8 +77,3 @@ module _ (b : List ℕ) (size : ℕ) (row : ℕ → ℕ) where
 
     pub directed : DeliveredFrom b size row best
     directed = record { between = d.between; uncut = λ m t h low. uncut_here m t h low (d.came m h) }
-
--- Before any has.
-pub directing_none : (b : List ℕ) (size : ℕ) (best : List ℕ) → Marked best → Directing b size (λ (k : ℕ). get_or best k 0) best 0
-directing_none b size best marked =
-    record { between = between_none b size best marked; sent = λ u t h low. absurd (omega arith); came = λ t h. inl refl }

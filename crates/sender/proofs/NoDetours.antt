@@ -2,19 +2,19 @@
 use Prim.Native.Nat.{ℕ, ◌+◌, ◌-◌, ◌*◌, ◌/◌, ◌≤◌, ◌<◌}
 use native.Mathlib.Decide.{ℕ_discrete}
 use native.Mathlib.Omega.{arith}
-use mathlib.Core.Path.{◌≡◌, sym, ◌∙◌}
-use mathlib.Core.Bool.{true, false}
+use mathlib.Core.Path.{◌≡◌, subst, ◌∙◌}
+use mathlib.Core.Bool.{Bool, true, false}
 use mathlib.Core.List.{List}
 use lib.Bits.{bit_and, and_le_l, and_le_r}
-use lib.ListN.{get_or, set, length-set}
-use lib.Seq.{get_or-set_same, get_or-set_other}
+use lib.ListN.{length, get_or}
 use borrow.Author.Count.{below_more}
-use Rattle.relations.specs.Code.{Listed}
+use Rattle.std.specs.Bool.{MatchBool}
+use Rattle.std.specs.List.{AllWithin, range_with_len}
+use Rattle.std.proofs.lemmas.List.FromFn.{length-range_with_len, get_or-range_with_len}
 use Rattle.relations.proofs.Leads.{clash}
 use Rattle.board.specs.Figures.{none_mark}
 use Rattle.board.specs.Board.{line_fixed_at, line_rate_at, sites_at}
-use Rattle.sender.specs.Delivering.{Carriable}
-use Rattle.sender.specs.Detours.{enough, DirectAt, DirectOver, DirectFrom, Direct, OtherLines}
+use Rattle.sender.specs.Detours.{enough, DirectAt, DirectOver, OtherLines}
 
 -- What has enough in both parts is no detour that pays.
 pub spare_direct : (b lines : List ℕ) (a m t to on rates closed x y : ℕ) → OtherLines b a lines → t < 8 → to ≡ line_fixed_at b a m → on ≡ line_fixed_at b m t →
@@ -32,15 +32,10 @@ pub over_more : (b : List ℕ) (a m t spare x : ℕ) → (enough ≤ spare → D
 over_more b a m t spare x before here plenty =
     below_more (λ (u : ℕ). DirectAt b a m u) t (before (omega (arith, and_le_l spare x))) (here (omega (arith, and_le_r spare x)))
 
-pub from_more : (b : List ℕ) (a m x : ℕ) → sites_at b ≤ 8 → DirectFrom b a m → (enough ≤ x → DirectOver b a m 8) → enough ≤ x → DirectFrom b a (m + 1)
-from_more b a m x few before here plenty = below_more (λ (u : ℕ). DirectOver b a u (sites_at b)) m before (λ t h. here plenty t (omega arith))
-
-pub direct_more : (b : List ℕ) (a : ℕ) → Direct b a → DirectFrom b a (sites_at b) → Direct b (a + 1)
-direct_more b a before here = below_more (λ (u : ℕ). DirectFrom b u (sites_at b)) a before here
-
--- An answer that is no.
-pub not_direct : (P : Type 0) → false ≡ true → P
-not_direct P e = absurd (clash (cc))
+-- Of the numbers below n, all of which passed.
+pub all_of_range : (P : ℕ → Type 0) (Q : Type 0) (r : Bool) (n : ℕ) → r ≡ true → MatchBool r (AllWithin P (range_with_len 0 n) 0 (length (range_with_len 0 n))) Q → (k : ℕ) → k < n → P k
+all_of_range P Q true n told all k low = let at : 0 + k ≡ k = omega arith in subst P (get_or-range_with_len 0 n k 0 low ∙ at) (all k 0 (omega arith) (omega (arith, length-range_with_len 0 n)))
+all_of_range P Q false n told all k low = absurd (clash (cc))
 
 -- Two sites have no way over a third.
 pub direct_two : (b : List ℕ) → sites_at b ≤ 2 → Direct b (sites_at b)
@@ -50,16 +45,3 @@ direct_two b few a from m over t to away one other = go (ℕ_discrete m a) (ℕ_
     go (yes e) d = rw e (omega arith, omega arith)
     go (no d) (yes e) = rw e (omega arith, omega arith)
     go (no d) (no e) = absurd (omega arith)
-
--- The fixed amounts of the lines to other sites, copied.
-pub others_done : (b : List ℕ) (a : ℕ) (row : List ℕ) → Carriable b 0 → a < sites_at b → Listed row (line_fixed_at b a) 8 8 → OtherLines b a (set row a 0)
-others_done b a row c low copied =
-    record {
-      long = length-set row a 0 ∙ copied.long;
-      each = λ t h away. get_or-set_other row a t 0 0 (λ e. away (sym e)) ∙ copied.each t h;
-      most = λ t h. go t h (ℕ_discrete t a);
-    }
-  where
-    go : (t : ℕ) → t < 8 → Dec (t ≡ a) → get_or (set row a 0) t 0 ≤ none_mark
-    go t h (yes e) = rw (e, get_or-set_same row a 0 0 (omega (arith, copied.long, c.few))) (omega arith)
-    go t h (no d) = rw (get_or-set_other row a t 0 0 d, copied.each t h) (c.fixed_most a t low h)

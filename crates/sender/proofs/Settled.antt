@@ -1,8 +1,7 @@
 -- The nearest site that is left sends over its lines, one after the other: what those that have sent have is no more than what the others have, so no line of
 -- theirs undercuts any site, then or later.
 use Prim.Native.Nat.{ℕ, zero, suc, ◌+◌, ◌-◌, ◌^◌, ◌≤◌, ◌<◌}
-use native.Mathlib.Nat.{le_refl, le_antisymm, le_of_suc-le-suc, eq-or-lt_of_le}
-use native.Mathlib.Numerals.{add-one}
+use native.Mathlib.Nat.{le_refl, le_antisymm}
 use native.Mathlib.Omega.{arith}
 use mathlib.Core.Path.{◌≡◌, refl, ap, subst, ◌∙◌}
 use mathlib.Core.Logic.{◌⊎◌, inl, inr}
@@ -33,38 +32,14 @@ pub record Weighed (row : List ℕ) (left k at : ℕ) : Type 0 where
   pub low : at < 8
   pub least : (t : ℕ) → t < k → bit left t ≡ 1 → get_or row at 0 ≤ get_or row t 0
 
--- The lowest of them at first; then a site more each turn, where it is among them.
+-- The lowest of them at first, and the nearest of all once all are weighed.
 pub weighed_none : (row : List ℕ) (left at : ℕ) → 0 < left → left < 256 → at ≡ lowest 64 left → Weighed row left 0 at
 weighed_none row left at some few is =
     let among : bit left (lowest 64 left) ≡ 1 = lowest_in 64 left some (omega arith) in
     record { among = rw is among; low = rw is (bit_range left 8 (lowest 64 left) few among); least = λ t h. absurd (omega arith) }
 
-module _ (row : List ℕ) (left k at : ℕ) (w : Weighed row left k at) where
-  pub weighed_more : (r : ℕ) → bit left k ≡ 1 → k < 8 →
-      ((r ≡ k) × (get_or row k 0 < get_or row at 0)) ⊎ ((r ≡ at) × (get_or row at 0 ≤ get_or row k 0)) → Weighed row left (k + 1) r
-  weighed_more r on low (inl (is, less)) =
-      rw is (record { among = on; low = low; least = λ t h b. go t b (eq-or-lt_of_le (le_of_suc-le-suc (rw (add-one k) at h))) })
-    where
-      go : (t : ℕ) → bit left t ≡ 1 → (t ≡ k) ⊎ (t < k) → get_or row k 0 ≤ get_or row t 0
-      go t b (inl e) = rw e (le_refl _)
-      go t b (inr h) = omega (arith, w.least t h b)
-  weighed_more r on low (inr (is, less)) =
-      rw is (record { among = w.among; low = w.low; least = λ t h b. go t b (eq-or-lt_of_le (le_of_suc-le-suc (rw (add-one k) at h))) })
-    where
-      go : (t : ℕ) → bit left t ≡ 1 → (t ≡ k) ⊎ (t < k) → get_or row at 0 ≤ get_or row t 0
-      go t b (inl e) = rw e less
-      go t b (inr h) = w.least t h b
-
-  pub weighed_same : (d : ℕ) → d ≡ bit left k → (d ≡ 1 → ⊥) → Weighed row left (k + 1) at
-  weighed_same d is off =
-      record { among = w.among; low = w.low; least = λ t h b. go t b (eq-or-lt_of_le (le_of_suc-le-suc (rw (add-one k) at h))) }
-    where
-      go : (t : ℕ) → bit left t ≡ 1 → (t ≡ k) ⊎ (t < k) → get_or row at 0 ≤ get_or row t 0
-      go t b (inl e) = absurd (off (is ∙ subst (λ (x : ℕ). bit left x ≡ 1) e b))
-      go t b (inr h) = w.least t h b
-
-  pub weighed_all : left < 256 → 8 ≤ k → Nearest row left at
-  weighed_all few h = record { among = w.among; least = λ t b. w.least t (omega (arith, bit_range left 8 t few b)) b }
+pub weighed_all : (row : List ℕ) (left k at : ℕ) → Weighed row left k at → left < 256 → 8 ≤ k → Nearest row left at
+weighed_all row left k at w few h = record { among = w.among; least = λ t b. w.least t (omega (arith, bit_range left 8 t few b)) b }
 
 module _ (b : List ℕ) (size : ℕ) (row : ℕ → ℕ) where
   -- Some sites have sent, others are left.
@@ -148,10 +123,6 @@ settling_none b size best left marked few is =
       nearer = λ u t h out on. absurd (omega (arith, out, ap (λ (x : ℕ). bit x u) is, bit_all (sites_at b) u h));
     }
 
--- What a turn asks: the sites that are left are few, and the nearest of them is a lane.
-pub left_some : (left : ℕ) → (left ≡ 0 → ⊥) → 0 < left
-left_some zero h = absurd (h refl)
-left_some (suc n) h = omega arith
-
+-- Each turn leaves fewer sites.
 pub less_left : (left m : ℕ) → bit left m ≡ 1 → (2 ^ m ≤ left) × (left - 2 ^ m < left)
 less_left left m on = let within : 2 ^ m ≤ left = le_of_sub (2 ^ m) left (sub_single left m on) in (within, omega (arith, pow_pos m))

@@ -6,6 +6,7 @@ ghost use Rattle.sender.specs.Delivering.{Carriable};
 ghost use Rattle.sender.specs.Detours.{enough, OtherLines, DirectAt, DirectOver, DirectFrom, Direct};
 
 use board::{BOARD, LINE_FIXED, LINE_RATE, NONE, sites_of};
+use std::array;
 
 // What a number is given before another is taken from it: the difference has it where nothing is missing.
 const ENOUGH: u64 = 4 * NONE;
@@ -18,18 +19,13 @@ fn other_lines(board: &[u64; BOARD], a: usize) -> [u64; 8]
     requires { Carriable board.now 0 × (a < sites_at board.now) }
     ensures { OtherLines board.now a result }
 {
-    let mut row = [0u64; 8];
-    let mut t = 0;
-    while t < 8 {
-        row[t] = board[8 * (LINE_FIXED + a) + t];
-        t += 1;
-    }
+    let mut row = array::from_fn(|t| board[8 * (LINE_FIXED + a) + t]);
     row[a] = 0;
     row
 }
 
 // Enough where the way from a over m to t has no lower fixed amount and no lower rate than the line, or is closed.
-fn spare_at<'a>(board: &'a [u64; BOARD], lines: &'a [u64; 8], a: usize, m: usize, t: usize) -> u64
+fn spare_at(board: &[u64; BOARD], lines: &[u64; 8], a: usize, m: usize, t: usize) -> u64
     requires { (Carriable board.now 0 × OtherLines board.now a lines.now) × ((a < sites_at board.now) × ((m < sites_at board.now) × (t < 8))) }
     ensures { enough ≤ result → DirectAt board.now a m t }
 {
@@ -43,15 +39,13 @@ fn spare_at<'a>(board: &'a [u64; BOARD], lines: &'a [u64; 8], a: usize, m: usize
 }
 
 // Enough where that holds of all ways from a over m.
-fn spare_over<'a>(board: &'a [u64; BOARD], lines: &'a [u64; 8], a: usize, m: usize) -> u64
+fn spare_over(board: &[u64; BOARD], lines: &[u64; 8], a: usize, m: usize) -> u64
     requires { (Carriable board.now 0 × OtherLines board.now a lines.now) × ((a < sites_at board.now) × (m < sites_at board.now)) }
     ensures { enough ≤ result → DirectOver board.now a m 8 }
 {
     let mut spare = ENOUGH;
-    let mut t = 0;
-    while t < 8 {
-        spare = spare & spare_at(board, lines, a, m, t);
-        t += 1;
+    for t in 0..8 {
+        spare &= spare_at(board, lines, a, m, t);
     }
     spare
 }
@@ -62,15 +56,7 @@ fn direct_from(board: &[u64; BOARD], a: usize) -> bool
     ensures { result ≡ true → DirectFrom board.now a (sites_at board.now) }
 {
     let lines = other_lines(board, a);
-    let sites = sites_of(board);
-    let mut m = 0;
-    while m < sites {
-        if spare_over(board, &lines, a, m) < ENOUGH {
-            return false;
-        }
-        m += 1;
-    }
-    true
+    (0..sites_of(board)).all(|m| spare_over(board, &lines, a, m) >= ENOUGH)
 }
 
 // Whether no detour can. Two sites have none.
@@ -79,15 +65,5 @@ pub fn is_direct(board: &[u64; BOARD]) -> bool
     ensures { result ≡ true → Direct board.now (sites_at board.now) }
 {
     let sites = sites_of(board);
-    if sites <= 2 {
-        return true;
-    }
-    let mut a = 0;
-    while a < sites {
-        if !direct_from(board, a) {
-            return false;
-        }
-        a += 1;
-    }
-    true
+    sites <= 2 || (0..sites).all(|a| direct_from(board, a))
 }

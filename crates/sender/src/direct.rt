@@ -16,10 +16,8 @@ pub fn direct_row(board: &[u64; BOARD], row: [u64; 8], size: Bytes) -> [u64; 8]
 {
     let sites = sites_of(board);
     let mut best = row;
-    let mut k = 0;
-    while k < sites {
+    for k in 0..sites {
         send_from(&mut best, board, row[k], size, k);
-        k += 1;
     }
     best
 }

@@ -30,10 +30,8 @@ pub(crate) fn send_from(
     requires { Marked best.old × ((figure ≤ none_mark) × (Carriable board.now size.0 × (k < sites_at board.now))) }
     ensures { TriedAt 8 best.old best.new (λ (t : ℕ). figure + line_in board.now size.0 k t) × Marked best.new }
 {
-    let mut t = 0;
-    while t < 8 {
+    for t in 0..8 {
         let sent = line_at(board, size, k, t);
         best[t] = lesser(figure + sent.0, best[t]);
-        t += 1;
     }
 }

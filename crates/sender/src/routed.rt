@@ -1,5 +1,6 @@
 // Delivered over routes of lines: the sites send one after the other, the nearest first.
 ghost use Rattle.std.specs.Prelude.{ℕ, ◌≤◌, ◌<◌, ◌≡◌, ◌⊎◌, get_or};
+ghost use Rattle.relations.specs.Sets.{bit};
 ghost use Rattle.board.specs.Figures.{Marked};
 ghost use Rattle.sender.specs.Delivering.{Carriable, DeliveredFrom, Nearest};
 
@@ -8,28 +9,27 @@ use board::{BOARD, sites_of};
 use query::Bytes;
 use relations::{bit, single, whole};
 
-// Of two sites the one with the lesser figure.
-fn nearer(row: &[u64; 8], k: usize, at: usize) -> usize
+// The site k, where it is left and has a lesser figure than the site at; else that one.
+fn nearer(row: &[u64; 8], left: usize, k: usize, at: usize) -> usize
     requires { (k < 8) × (at < 8) }
-    ensures { ((result ≡ k) × (get_or row.now k 0 < get_or row.now at 0)) ⊎ ((result ≡ at) × (get_or row.now at 0 ≤ get_or row.now k 0)) }
+    ensures { ((result ≡ k) × ((bit left k ≡ 1) × (get_or row.now k 0 < get_or row.now at 0))) ⊎ ((result ≡ at) × (bit left k ≡ 1 → get_or row.now at 0 ≤ get_or row.now k 0)) }
 {
-    if row[k] < row[at] { k } else { at }
+    if bit(left, k) == 1 && row[k] < row[at] {
+        k
+    } else {
+        at
+    }
 }
 
-// A site with the least figure of some sites, which are given as bits.
+// A site with the least figure of some sites, which are given as bits. For `min_by_key` over the filtered sites no proof was found, and with the test of
+// `nearer` in the loop itself a solve with detours takes 2.5 % more instructions.
 fn nearest(row: &[u64; 8], left: usize) -> usize
     requires { (0 < left) × (left < 256) }
     ensures { Nearest row.now left result }
 {
-    let mut at = usize::trailing_zeros(left) as usize;
-    let mut k = 0;
-    while k < 8 {
-        if bit(left, k) == 1 {
-            at = nearer(row, k, at);
-            k += 1;
-            continue;
-        }
-        k += 1;
+    let mut at = left.trailing_zeros() as usize;
+    for k in 0..8 {
+        at = nearer(row, left, k, at);
     }
     at
 }
@@ -46,7 +46,7 @@ pub fn routed_row(board: &[u64; BOARD], row: [u64; 8], size: Bytes) -> [u64; 8]
         let k = nearest(&best, left);
         let figure = best[k];
         send_from(&mut best, board, figure, size, k);
-        left = left - single(k);
+        left -= single(k);
     }
     best
 }

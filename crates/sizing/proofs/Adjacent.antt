@@ -11,7 +11,7 @@ use Rattle.relations.specs.declared.Joins.{Joins}
 use Rattle.relations.specs.Sets.{bit, Sub}
 use Rattle.relations.specs.Growth.{first, second}
 use Rattle.relations.proofs.Bits.{bit_le, bit_pow, more_cases}
-use Rattle.relations.proofs.Leads.{never_both, both_true, true_both}
+use Rattle.relations.proofs.Leads.{never_both, both_true}
 use Rattle.sizing.specs.Worked.{lowest_where, links, join_to, may_join_in, next}
 use Rattle.sizing.specs.Code.{Adjacent}
 use Rattle.sizing.proofs.Found.{where_found, where_before, where_is}
@@ -29,7 +29,7 @@ both a x b e = let h = both_true (eqb a x) (eqb b 1) e in (eqb-true a x h.0, eqb
 
 one_of : (a b : Bool) → (a ≡ true) ⊎ (b ≡ true) → (a || b) ≡ true
 one_of true b h = refl
-one_of false b (inl e) = absurd (never_both false e refl)
+one_of false b (inl e) = absurd (cc)
 one_of false b (inr e) = e
 
 pub linked : (J : Joins) (T r e : ℕ) → links J T r e ≡ true → Linked J T r e
@@ -42,8 +42,8 @@ linked J T r e h = go (either _ _ h)
 
 pub links_of : (J : Joins) (T r e : ℕ) → Linked J T r e → links J T r e ≡ true
 unfolding links
-links_of J T r e (inl (p, q)) = one_of (eqb (first J e) r && eqb (bit T (second J e)) 1) _ (inl (true_both _ _ (eq-eqb _ _ p) (eq-eqb _ _ q)))
-links_of J T r e (inr (p, q)) = one_of (eqb (first J e) r && eqb (bit T (second J e)) 1) _ (inr (true_both _ _ (eq-eqb _ _ p) (eq-eqb _ _ q)))
+links_of J T r e (inl (p, q)) = one_of (eqb (first J e) r && eqb (bit T (second J e)) 1) _ (inl (cc (eq-eqb _ _ p, eq-eqb _ _ q)))
+links_of J T r e (inr (p, q)) = one_of (eqb (first J e) r && eqb (bit T (second J e)) 1) _ (inr (cc (eq-eqb _ _ p, eq-eqb _ _ q)))
 
 -- Adjacent to some of T is adjacent to T; adjacent to T and another relation is adjacent to one of them.
 linked_more : (J : Joins) (A B r e : ℕ) → Sub A B → Linked J A r e → Linked J B r e
@@ -109,7 +109,7 @@ ready J S T r h =
 pub may_join_lem : (J : Joins) (S T r : ℕ) → Ready J S T r → may_join_in J S T r ≡ true
 unfolding may_join_in
 may_join_lem J S T r h =
-    true_both _ _ (true_both _ _ (eq-eqb _ _ h.of_set) (eq-eqb _ _ h.free)) (lt-ltb (join_to J T r) J.count (join_in J T r h.near))
+    cc (eq-eqb _ _ h.of_set, eq-eqb _ _ h.free, lt-ltb (join_to J T r) J.count (join_in J T r h.near))
 
 -- The relation that joins in next: it is ready, and no lower one is.
 module _ (J : Joins) (n S T : ℕ) where

@@ -2,7 +2,7 @@
 use Prim.Native.Nat.{ℕ, zero, suc, ◌^◌, ◌≤◌, ◌<◌}
 use native.Mathlib.Nat.{eq-or-lt_of_le, le_of_suc-le-suc}
 use native.Mathlib.Omega.{arith}
-use mathlib.Core.Path.{◌≡◌, refl, sym, ap, subst, ◌∙◌}
+use mathlib.Core.Path.{◌≡◌, sym, ap, subst, ◌∙◌}
 use mathlib.Core.Bool.{Bool, true, false}
 use mathlib.Core.List.{List}
 use mathlib.Core.Logic.{inl, inr}
@@ -51,7 +51,7 @@ module _ (J : Joins) (n : ℕ) (size : ℕ → ℕ) where
     where
       last : (d : Bool) → d ≡ true → get_or (pick d (set (sizes_below J n size m) m (size m)) (sizes_below J n size m)) m 0 ≡ size m
       last true e = get_or-set_same (sizes_below J n size m) m (size m) 0 (omega (arith, (sizes_in m).long))
-      last false e = absurd (never_both false e refl)
+      last false e = absurd (cc)
 
   pub sizes_upto : ((S : ℕ) → size S ≤ most_size) → (m : ℕ) → UpTo most_size (sizes_below J n size m)
   unfolding sizes_below

@@ -1,8 +1,7 @@
 // The sizes of all subqueries, each in one step from a subquery with one relation fewer: the one without the relation that joins in last. A relation
 // waits for a subquery where it would join in after all of it. Going on from a subquery to those with one that waits for it comes to every
 // subquery just once.
-ghost use Rattle.std.specs.Prelude.{ℕ, ◌+◌, ◌^◌, ◌≤◌, ◌<◌, List, ◌≡◌, replicate};
-ghost use Rattle.relations.specs.declared.Joins.{Joins};
+ghost use Rattle.std.specs.Prelude.{◌+◌, ◌^◌, ◌≤◌, ◌<◌, ◌≡◌, replicate};
 ghost use Rattle.relations.specs.Code.{most_sets};
 ghost use Rattle.subqueries.specs.Table.{Tabled};
 ghost use Rattle.sizing.specs.Worked.{worked_sizes};
@@ -18,58 +17,53 @@ fn above(n: usize, set: usize) -> usize
     requires { (n ≤ 9) × ((0 < set) × (set < 2 ^ n)) }
     ensures { result ≡ above n set }
 {
-    let low = usize::trailing_zeros(set) as usize;
+    let low = set.trailing_zeros() as usize;
     whole(n) - set - (single(low) - 1)
 }
 
-// Each relation by itself has its rows; the neighbours above it wait for it.
-fn begin(
+// What every step reads: the joins, their table, the row counts and divisors, and the neighbours of each relation.
+#[derive(Clone, Copy)]
+struct Given<'a> {
     joins: Joins,
-    rows: &[u32; 9],
-    near: &[usize; 9],
-    waiting: &mut [usize; SETS],
-    sizes: &mut [u32; SETS],
-)
-    requires { Startable joins near.now (lists_of sizes.old waiting.old) }
-    ensures { (divisors : List ℕ) → Begun joins (joins.count + 1) rows.now divisors
-        (lists_of sizes.old waiting.old) (lists_of sizes.new waiting.new) (joins.count + 1) }
-{
-    for r in 0..=joins.count {
-        let set = single(r);
-        sizes[set] = rows[r];
-        waiting[set] = near[r] & above(joins.count + 1, set);
-    }
+    table: &'a [u32; SETS],
+    rows: &'a [u32; 9],
+    divisors: &'a [u32; 9],
+    near: &'a [usize; 9],
 }
 
-// From a subquery to those with one of the relations that wait for it. For these wait the higher ones that waited beside it, and its own neighbours.
-// Of the joins it takes the number of relations, n, alone.
-fn extend(
-    n: usize,
-    table: &[u32; SETS],
-    rows: &[u32; 9],
-    divisors: &[u32; 9],
-    near: &[usize; 9],
-    waiting: &mut [usize; SETS],
-    sizes: &mut [u32; SETS],
-    set: usize,
-)
-    requires { (J : Joins) × Extendable J n table.now rows.now divisors.now near.now (lists_of sizes.old waiting.old) set }
-    ensures { (J : Joins) → Extendable J n table.now rows.now divisors.now near.now
-        (lists_of sizes.old waiting.old) set →
-        Extended J n rows.now divisors.now set
-        (lists_of sizes.old waiting.old) (lists_of sizes.new waiting.new) }
-{
-    let size = sizes[set];
-    let held = joins_in(table[set]);
-    let mut left = waiting[set];
-    while left != 0 {
-        let r = usize::trailing_zeros(left) as usize;
-        let one = single(r);
-        left -= one;
-        let more = set + one;
-        let e = usize::trailing_zeros(joins_in(table[more]) - held) as usize;
-        sizes[more] = joined_size(size, rows[r], divisors[e]);
-        waiting[more] = left | near[r] & above(n, set);
+impl Given<'_> {
+    // Each relation by itself has its rows; the neighbours above it wait for it.
+    fn begin(&self, waiting: &mut [usize; SETS], sizes: &mut [u32; SETS])
+        requires { Startable self.now.joins self.now.near.now (lists_of sizes.old waiting.old) }
+        ensures { Begun self.now.joins (self.now.joins.count + 1) self.now.rows.now self.now.divisors.now
+            (lists_of sizes.old waiting.old) (lists_of sizes.new waiting.new) (self.now.joins.count + 1) }
+    {
+        for r in 0..=self.joins.count {
+            let set = single(r);
+            sizes[set] = self.rows[r];
+            waiting[set] = self.near[r] & above(self.joins.count + 1, set);
+        }
+    }
+
+    // From a subquery to those with one of the relations that wait for it. For these wait the higher ones that waited beside it, and its own neighbours.
+    fn extend(&self, waiting: &mut [usize; SETS], sizes: &mut [u32; SETS], set: usize)
+        requires { Extendable self.now.joins (self.now.joins.count + 1) self.now.table.now self.now.rows.now self.now.divisors.now self.now.near.now
+            (lists_of sizes.old waiting.old) set }
+        ensures { Extended self.now.joins (self.now.joins.count + 1) self.now.rows.now self.now.divisors.now set
+            (lists_of sizes.old waiting.old) (lists_of sizes.new waiting.new) }
+    {
+        let size = sizes[set];
+        let held = joins_in(self.table[set]);
+        let mut left = waiting[set];
+        while left != 0 {
+            let r = left.trailing_zeros() as usize;
+            let one = single(r);
+            left -= one;
+            let more = set + one;
+            let e = (joins_in(self.table[more]) - held).trailing_zeros() as usize;
+            sizes[more] = joined_size(size, self.rows[r], self.divisors[e]);
+            waiting[more] = left | self.near[r] & above(self.joins.count + 1, set);
+        }
     }
 }
 
@@ -87,20 +81,18 @@ pub fn work_out(
     ensures { sizes.new ≡ worked_sizes joins (joins.count + 1) rows.now divisors.now }
 {
     let near = neighbours(joins);
+    let given = Given {
+        joins,
+        table,
+        rows,
+        divisors,
+        near: &near,
+    };
     let mut waiting = [0; SETS];
-    begin(joins, rows, &near, &mut waiting, &mut *sizes);
+    given.begin(&mut waiting, sizes);
     for set in 1..single(joins.count + 1) {
         if is_connected(table[set]) {
-            extend(
-                joins.count + 1,
-                table,
-                rows,
-                divisors,
-                &near,
-                &mut waiting,
-                &mut *sizes,
-                set,
-            );
+            given.extend(&mut waiting, sizes, set);
         }
     }
 }

@@ -12,6 +12,7 @@ const RELATION: u32 = 65536;
 const JOIN: u32 = 256;
 
 // The sets with a new relation, whose mask is half: each holds what the set without it holds, and one relation more.
+// By index: of what goes through the halves' `iter_mut` no contract tells.
 fn double(table: &mut [u32; SETS], half: usize)
     requires { Roomy table.old half 0 20 }
     ensures { Upper table.old table.new half half (λ i. get_or table.old i 0 + 65536) }

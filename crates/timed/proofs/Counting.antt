@@ -1,17 +1,19 @@
 -- One more solve counts one plan more, or none: each solve answers the same, whatever the one before it wrote.
-use Prim.Native.Nat.{ℕ, ◌+◌, ◌≤◌}
+use Rattle.std.proofs.Common.{Result}
+use Prim.Native.Nat.{ℕ, ◌+◌}
 use native.Mathlib.Omega.{arith}
 use mathlib.Core.Path.{◌≡◌, refl, ap, ◌∙◌}
 use mathlib.Core.List.{List}
 use mathlib.Core.Option.{none}
 use lib.ListN.{length}
 use Rattle.planner.specs.declared.Planner.{Planner}
-use Rattle.planner.specs.declared.LoadAnswer.{LoadAnswer}
-use Rattle.planner.specs.declared.SolveAnswer.{SolveAnswer}
+use Rattle.planner.specs.declared.Loaded.{Loaded}
+use Rattle.query.specs.declared.refusal.Refusal.{Refusal}
+use Rattle.solver.specs.declared.Solution.{Solution}
 use Rattle.planner.specs.State.{State}
 use Rattle.planner.specs.Load.{load}
 use Rattle.planner.specs.Solve.{Answer, found, no_route, refused, Solving, solving_of, solve, blank}
-use Rattle.planner.specs.Code.{state_of, done_of, of_load, of_solve, Sound}
+use Rattle.planner.specs.Code.{state_of, done_of, of_load, of_solve}
 use Rattle.planner.proofs.Cells.{ample_cells, needed_enough, solve_enough}
 use Rattle.planner.proofs.Again.{solve_again}
 use Rattle.timed.specs.Found.{found_by, answer_in, plans_found}
@@ -31,27 +33,23 @@ counted_none s = none_at_first (answer_in s)
 
 -- A turn, over cells enough and an output with room for the longest plan.
 module _
-    (p : Planner) (sound : Sound p) (a : SolveAnswer) (n : ℕ) (out new : List ℕ) (solving : solving_of (of_solve a) new ≡ solve n out (state_of p))
+    (p : Planner) (a : Result Solution Refusal) (n : ℕ) (out new : List ℕ) (solving : solving_of (of_solve a) new ≡ solve n out (state_of p))
     (many : n ≡ ample_cells) (room : length out ≡ length blank)
   where
     as_defined : of_solve a ≡ answer_in (state_of p)
     as_defined =
         ap (λ (x : Solving). x.answer) solving ∙ solve_again out blank room n (state_of p)
-        ∙ ap (λ (x : Solving). x.answer) (solve_enough n blank (state_of p) (needed_enough p sound n (omega arith)))
+        ∙ ap (λ (x : Solving). x.answer) (solve_enough n blank (state_of p) (needed_enough p n (omega arith)))
 
     pub counted_more :
         (count r i : ℕ) → count ≡ found_by (answer_in (state_of p)) i → r ≡ found_by (of_solve a) 1 → count + r ≡ found_by (answer_in (state_of p)) (i + 1)
     counted_more count r i counted one = rw (counted, one, as_defined) (one_more (answer_in (state_of p)) i)
 
--- All turns are done.
-pub counted_all : (a : Answer) (count i times : ℕ) → count ≡ found_by a i → i ≤ times → times ≤ i → count ≡ found_by a times
-counted_all a count i times h le ge = h ∙ ap (found_by a) (omega arith)
-
 -- The query stands that load made of an empty planner.
 pub loaded_plans :
-    (empty p : Planner) (a : LoadAnswer) (file : List ℕ) (times r : ℕ) → state_of empty ≡ none → done_of (of_load a) p ≡ load file (state_of empty) →
+    (empty p : Planner) (a : Result Loaded Refusal) (file : List ℕ) (times r : ℕ) → state_of empty ≡ none → done_of (of_load a) p ≡ load file (state_of empty) →
     r ≡ found_by (answer_in (state_of p)) times → r ≡ plans_found file times
 unfolding plans_found
 loaded_plans empty p a file times r e done h = rw (← e, ← done) h
 
-pub ruleset counting = (counted_none, counted_more, counted_all, loaded_plans)
+pub ruleset counting = (counted_none, counted_more, loaded_plans)

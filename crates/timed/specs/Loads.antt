@@ -1,15 +1,10 @@
 -- Whether a plan is found after so many loads of one file.
-use Rattle.std.specs.Prelude.{ℕ, zero, suc, Bool, true, false, List}
+use Rattle.std.specs.Prelude.{ℕ, zero, suc, List}
 use Rattle.std.proofs.Math.Option.{none}
 use Rattle.planner.specs.State.{State}
 use Rattle.planner.specs.Done.{Done}
-use Rattle.planner.specs.Load.{Answer, load, load_rows}
+use Rattle.planner.specs.Load.{Answer}
 use Rattle.timed.specs.Found.{found_by, answer_in}
-
--- The one load or the other.
-abbrev pub load_from : (rows : Bool) → List ℕ → State → Done Answer
-load_from true = load_rows
-load_from false = load
 
 -- What stands after so many loads, each in the state that the one before left. At first nothing stands.
 unfoldable pub standing : (List ℕ → State → Done Answer) → List ℕ → ℕ → State

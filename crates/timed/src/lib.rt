@@ -2,41 +2,33 @@
 #![tactic(auto)]
 
 ghost use Rattle.std.specs.Prelude.{◌≤◌, ◌≡◌};
-ghost use Rattle.planner.specs.Load.{load, load_rows};
-ghost use Rattle.planner.specs.Code.{state_of, of_solve, Sound};
+ghost use Rattle.planner.specs.Load.{load_by, load, load_rows};
+ghost use Rattle.planner.specs.Code.{state_of, of_solve};
 ghost use Rattle.timed.specs.Found.{found_by, answer_in, plans_found};
-ghost use Rattle.timed.specs.Loads.{load_from, plan_after};
+ghost use Rattle.timed.specs.Loads.{plan_after};
 
-use planner::{CELLS, LONGEST_PLAN, Planner, SolveAnswer};
+use decoder::Form;
+use planner::{CELLS, LONGEST_PLAN, Planner, Refusal, Solution};
 
 // 1 where a plan was found, else 0.
-fn found(a: SolveAnswer) -> u64
+fn found(a: Result<Solution, Refusal>) -> u64
     ensures { (result ≡ found_by (of_solve a) 1) × (result ≤ 1) }
 {
     match a {
-        SolveAnswer::Found {
-            cost: _,
-            length: _,
-            trials: _,
-        } => 1,
-        SolveAnswer::NoRoute { trials: _ } => 0,
-        SolveAnswer::Refused(_) => 0,
+        Ok(Solution::Found { .. }) => 1,
+        _ => 0,
     }
 }
 
 // Solves so many times over one work area and one output, and counts the plans that were found.
 fn solves(p: Planner, times: u64) -> u64
-    requires { Sound p }
     ensures { result ≡ found_by (answer_in (state_of p)) times }
 {
     let mut cells = [0u64; CELLS];
     let mut output = [0u8; LONGEST_PLAN];
     let mut plans = 0;
-    let mut i = 0;
-    while i < times {
-        let a = planner::solve(p, &mut cells, &mut output);
-        plans += found(a);
-        i += 1;
+    for _ in 0..times {
+        plans += found(planner::solve(p, &mut cells, &mut output));
     }
     plans
 }
@@ -46,33 +38,28 @@ fn solves(p: Planner, times: u64) -> u64
 pub extern "C" fn fanchuki_solves(query: &[u8], times: u64) -> u64
     ensures { result ≡ plans_found query.now times }
 {
-    let d = planner::load(planner::empty(), query);
-    solves(d.planner, times)
+    solves(planner::load(planner::empty(), query).planner, times)
 }
 
-// The planner that the one load or the other leaves.
-fn loaded(p: Planner, rows: bool, file: &[u8]) -> Planner
-    requires { Sound p }
-    ensures next { state_of result ≡ (load_from rows file.now (state_of p)).next }
-    ensures sound { Sound result }
+// The planner that a load of a file of either form leaves.
+#[tactic(auto, using(crate::proofs::Standing::standings))]
+fn loaded(p: Planner, form: Form, file: &[u8]) -> Planner
+    ensures { state_of result ≡ (load_by form file.now (state_of p)).next }
 {
-    if rows {
-        let d = planner::load_rows(p, file);
-        return d.planner;
+    match form {
+        Form::Sizes => planner::load(p, file).planner,
+        Form::Rows => planner::load_rows(p, file).planner,
     }
-    let d = planner::load(p, file);
-    d.planner
 }
 
 // Loads so many times, each on the planner that the one before handed back, and then solves once.
-fn loads(rows: bool, file: &[u8], times: u64) -> u64
-    ensures { result ≡ plan_after (load_from rows) file.now times }
+#[tactic(auto, using(crate::proofs::Standing::standings))]
+fn loads(form: Form, file: &[u8], times: u64) -> u64
+    ensures { result ≡ plan_after (load_by form) file.now times }
 {
     let mut p = planner::empty();
-    let mut i = 0;
-    while i < times {
-        p = loaded(p, rows, file);
-        i += 1;
+    for _ in 0..times {
+        p = loaded(p, form, file);
     }
     solves(p, 1)
 }
@@ -82,7 +69,7 @@ fn loads(rows: bool, file: &[u8], times: u64) -> u64
 pub extern "C" fn fanchuki_loads(query: &[u8], times: u64) -> u64
     ensures { result ≡ plan_after load query.now times }
 {
-    loads(false, query, times)
+    loads(Form::Sizes, query, times)
 }
 
 // The same from row counts.
@@ -90,5 +77,5 @@ pub extern "C" fn fanchuki_loads(query: &[u8], times: u64) -> u64
 pub extern "C" fn fanchuki_row_loads(query: &[u8], times: u64) -> u64
     ensures { result ≡ plan_after load_rows query.now times }
 {
-    loads(true, query, times)
+    loads(Form::Rows, query, times)
 }

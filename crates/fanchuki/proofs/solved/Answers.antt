@@ -1,16 +1,13 @@
 -- Each answer of solve is a case of the definition.
 use borrow.Author.Rules.{rules}
-use Rattle.fanchuki.proofs.Serving.{serving}
+use Rattle.fanchuki.proofs.Serving.{by_solve}
 use Rattle.fanchuki.proofs.solved.Goals as goal
 
-pub refusal-requires : goal.refusal-requires
-refusal-requires c = search (rules, serving)
+pub returns-in-Ok-Found : goal.returns-in-Ok-Found
+returns-in-Ok-Found c = let f = by_solve _ _ _ _ _ c.solve.ensures.solved c.requires in search rules
 
-pub returns-in-Found : goal.returns-in-Found
-returns-in-Found c = search (rules, serving)
+pub returns-in-Ok-NoRoute : goal.returns-in-Ok-NoRoute
+returns-in-Ok-NoRoute c = let f = by_solve _ _ _ _ _ c.solve.ensures.solved c.requires in search rules
 
-pub returns-in-NoRoute : goal.returns-in-NoRoute
-returns-in-NoRoute c = search (rules, serving)
-
-pub returns-in-Refused : goal.returns-in-Refused
-returns-in-Refused c = search (rules, serving)
+pub returns-in-Err : goal.returns-in-Err
+returns-in-Err c = let f = by_solve _ _ _ _ _ c.solve.ensures.solved c.requires in search rules

@@ -5,7 +5,7 @@ use mathlib.Core.Bool.{true, false}
 use mir.Syntax.{w64}
 use mir.Val.{of_z}
 use borrow.Author.Rules.{rules}
-use Rattle.board.proofs.Signed.{minus, negative, minus_fits, sum_fits, sum_cast, sum_lesser}
+use Rattle.board.proofs.Signed.{minus, negative, sum_lesser}
 use Rattle.board.proofs.figures.lesser.Goals as goal
 use Rattle.board.proofs.figures.lesser.Goals.{then-d-lt0, else-d-lt0}
 
@@ -14,15 +14,6 @@ came :
     ((negative (minus c.args.new c.args.kept) ≡ true) × (c.if-d-lt0.less-bits ≡ of_z w64 (minus c.args.new c.args.kept)))
     ⊎ ((negative (minus c.args.new c.args.kept) ≡ false) × (c.if-d-lt0.less-bits ≡ 0))
 came c = elim c.if-d-lt0.branch [ then-d-lt0 w ↦ inl (search rules, search rules) | else-d-lt0 w ↦ inr (search rules, search rules) ]
-
-pub overflow_sub-d : goal.overflow_sub-d
-overflow_sub-d c = minus_fits c.args.new c.args.kept c.requires.0 c.requires.1
-
-pub overflow_add-result : goal.overflow_add-result
-overflow_add-result c = sum_fits c.args.new c.args.kept c.requires.0 c.requires.1 c.if-d-lt0.less-bits (came c)
-
-pub overflow_cast-result-2 : goal.overflow_cast-result-2
-overflow_cast-result-2 c = sum_cast c.args.new c.args.kept c.requires.0 c.requires.1 c.if-d-lt0.less-bits (came c)
 
 pub returns : goal.returns
 returns c = sum_lesser c.args.new c.args.kept c.requires.0 c.requires.1 c.if-d-lt0.less-bits (came c)

@@ -2,17 +2,9 @@
 use native.Mathlib.Omega.{arith}
 use borrow.Author.Rules.{rules}
 use borrow.Author.Tests.{eq-eqb, ne_eqb}
-use Rattle.query.proofs.Indexed.{place_fits, one_of_nine}
+use Rattle.query.proofs.Indexed.{one_of_nine}
 use Rattle.board.specs.Board.{operand_row}
 use Rattle.board.proofs.lanes.operand_row.Goals as goal
-
-pub overflow_cast-result : goal.overflow_cast-result
-unfolding operand_row
-overflow_cast-result c = place_fits _
-
-pub overflow_add-result : goal.overflow_add-result
-unfolding operand_row
-overflow_add-result c = record { fits = omega (arith, one_of_nine _ c.if-set-eq1.true (search rules)) }
 
 pub returns-then-set-eq1 : goal.returns-then-set-eq1
 unfolding operand_row

@@ -9,10 +9,6 @@ use Rattle.router.proofs.sends.put_route.Goals as goal
 pub returns-then-k-t : goal.returns-then-k-t
 returns-then-k-t c = rw (route_stays _ _ _ _ c.requires.carriable.1.0.0 c.if-k-t.true) (wrote_none _ _)
 
-pub line_at-sent-requires : goal.line_at-sent-requires
-line_at-sent-requires c = let p = c.requires.carriable in (p.0, (p.1.0.0, omega (arith, p.1.0.1, p.0.few)))
-
--- Where the line costs the carriage.
 pub put-requires : goal.put-requires
 put-requires c =
     let p = c.requires.carriable in

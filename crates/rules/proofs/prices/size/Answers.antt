@@ -1,8 +1,6 @@
--- `prices::size` meets its contract: each size is within its limit. Assumes nothing.
-use Rattle.std.proofs.Common.{rules, arith}
-use Rattle.query.specs.Query.{size}
+-- `prices::size` meets its contract: a set of at most nine relations is in the list. Assumes nothing.
+use Rattle.relations.proofs.Loops.{below_sets}
 use Rattle.rules.proofs.prices.size.Goals as goal
 
-pub returns : goal.returns
-unfolding size
-returns c = (search rules, omega (arith, c.requires.0.sizes_most c.args.set))
+pub bounds-q-set : goal.bounds-q-set
+bounds-q-set c = below_sets _ _ c.requires.0.relations_most c.requires.1

@@ -1,31 +1,17 @@
--- `detours::is_direct` meets its contract: each turn weighs the ways from one site more. Assumes nothing.
+-- Two sites have no detour; of more, where all are weighed and none fails.
+use mathlib.Core.Path.{refl}
 use native.Mathlib.Omega.{arith}
-use Rattle.sender.proofs.NoDetours.{direct_two, direct_more, not_direct}
+use borrow.Author.Rules.{rules}
+use Rattle.std.proofs.lemmas.Iterator.{cases_from_all, YieldsList-from_range}
+use Rattle.board.specs.Board.{sites_at}
+use Rattle.sender.specs.Detours.{DirectFrom}
+use Rattle.sender.proofs.NoDetours.{all_of_range, direct_two}
 use Rattle.sender.proofs.detours.is_direct.Goals as goal
 
 pub returns-then-sites-le2 : goal.returns-then-sites-le2
-returns-then-sites-le2 c = λ e. direct_two c.args.board.now (omega (arith, c.if-sites-le2.true, c.sites_of-sites.ensures))
+returns-then-sites-le2 c = λ told. direct_two c.args.board.now (omega (arith, c.if-sites-le2.true, c.sites_of-sites.ensures))
 
-pub loop-a-init : goal.loop-a-init
-loop-a-init c = (omega arith, λ a h. absurd (omega arith))
-
-pub direct_from-requires : goal.direct_from-requires
-direct_from-requires c = (c.requires, omega (arith, c.loop-a-test.true, c.sites_of-sites.ensures))
-
-pub returns-then-not-direct_from : goal.returns-then-not-direct_from
-returns-then-not-direct_from c = not_direct _
-
-pub overflow_add-a : goal.overflow_add-a
-overflow_add-a c = record { fits = omega (arith, c.loop-a-test.true, c.sites_of-sites.ensures, c.requires.few) }
-
-pub loop-a-smaller : goal.loop-a-smaller
-loop-a-smaller c = omega (arith, c.loop-a-test.true)
-
-pub loop-a-preserved : goal.loop-a-preserved
-loop-a-preserved c = (
-  omega (arith, c.loop-a-test.true),
-  direct_more c.args.board.now c.loop-a.a c.loop-a.invariant.1 (c.direct_from.ensures c.if-not-direct_from.false),
-)
-
-pub returns : goal.returns
-returns c = λ e a h. c.loop-a.invariant.1 a (omega (arith, c.loop-a-test.false, c.sites_of-sites.ensures))
+pub returns-else-sites-le2 : goal.returns-else-sites-le2
+returns-else-sites-le2 c = λ told a low.
+    let weighed = cases_from_all _ _ _ (λ x. DirectFrom c.args.board.now x (sites_at c.args.board.now)) (λ x. Unit {0}) c.all.ensures.ran (YieldsList-from_range 0 _ _ refl refl) (λ x q k. search rules) (λ x q k. tt) in
+    all_of_range (λ x. DirectFrom c.args.board.now x (sites_at c.args.board.now)) _ _ _ told weighed a (omega (arith, c.sites_of-sites.ensures))

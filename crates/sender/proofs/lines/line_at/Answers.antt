@@ -3,9 +3,6 @@ use native.Mathlib.Omega.{arith}
 use Rattle.sender.proofs.LinePrices.{line_asks, line_is}
 use Rattle.sender.proofs.lines.line_at.Goals as goal
 
-pub line_price-requires : goal.line_price-requires
-line_price-requires c = line_asks _ _ _ _ c.requires.0 c.requires.1.0 c.requires.1.1
-
 pub returns : goal.returns
 returns c =
     let p = line_asks _ _ _ _ c.requires.0 c.requires.1.0 c.requires.1.1 in

@@ -1,11 +1,8 @@
--- `lines::send_from` meets its contract: each turn tries one site more. Assumes nothing.
-use Prim.Native.Nat.{ℕ, ◌+◌, ◌-◌}
+-- Each turn tries one site more.
+use Prim.Native.Nat.{ℕ, ◌+◌}
 use Rattle.sender.specs.Delivering.{line_in}
 use Rattle.sender.specs.Rows.{TriedFrom}
 use Rattle.sender.proofs.lines.send_from.Given as goal
 
 abbrev pub invariant-loop-t : goal.invariant-loop-t
 invariant-loop-t l = TriedFrom l.initial.best l.best (λ (i : ℕ). l.figure + line_in l.board l.size.0 l.k i) 0 l.t
-
-abbrev pub decreases-loop-t : goal.decreases-loop-t
-decreases-loop-t l = 8 - l.t

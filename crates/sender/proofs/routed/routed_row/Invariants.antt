@@ -1,4 +1,4 @@
--- `routed::routed_row` meets its contract: each turn the nearest site that is left sends. Assumes nothing.
+-- Each turn the nearest site that is left sends.
 use Prim.Native.Nat.{ℕ}
 use lib.ListN.{get_or}
 use Rattle.sender.proofs.Settled.{Settling}

@@ -18,7 +18,7 @@ begin-requires c =
 pub loop-set-init : goal.loop-set-init
 loop-set-init c =
     let p = c.requires in
-    started _ _ _ _ _ (standing p.tabled p.counts c.neighbours-near.ensures) _ _ (c.begin.ensures _) p.sizes_are_zero
+    started _ _ _ _ _ (standing p.tabled p.counts c.neighbours-near.ensures) _ _ c.begin.ensures p.sizes_are_zero
 
 pub bounds-table-set : goal.bounds-table-set
 bounds-table-set c =
@@ -28,14 +28,14 @@ bounds-table-set c =
 pub extend-requires : goal.extend-requires
 extend-requires c =
     let p = c.requires in
-    (_, extendable _ _ _ _ _ (standing p.tabled p.counts c.neighbours-near.ensures) _ _ (below_all _ _ _ _ c.loop-set-test.true c.single-set-end.ensures (omega arith)) c.loop-set.invariant _ c.is_connected.ensures c.if-is_connected.true)
+    extendable _ _ _ _ _ (standing p.tabled p.counts c.neighbours-near.ensures) _ _ (below_all _ _ _ _ c.loop-set-test.true c.single-set-end.ensures (omega arith)) c.loop-set.invariant _ c.is_connected.ensures c.if-is_connected.true
 
 pub loop-set-preserved : goal.loop-set-preserved
 loop-set-preserved c =
     let p = c.requires in
     let s = standing p.tabled p.counts c.neighbours-near.ensures in
     elim c.if-is_connected.branch [
-      | then-is_connected w ↦ rw (w.sizes-is, w.waiting-is) (goes_on _ _ _ _ _ s _ _ (below_all _ _ _ _ c.loop-set-test.true c.single-set-end.ensures (omega arith)) c.loop-set.invariant _ c.is_connected.ensures _ w.if-is_connected.true (w.extend.ensures _))
+      | then-is_connected w ↦ rw (w.sizes-is, w.waiting-is) (goes_on _ _ _ _ _ s _ _ (below_all _ _ _ _ c.loop-set-test.true c.single-set-end.ensures (omega arith)) c.loop-set.invariant _ c.is_connected.ensures _ w.if-is_connected.true (λ a. w.extend.ensures))
       | else-is_connected w ↦ rw (w.sizes-is, w.waiting-is) (passes _ _ _ _ _ s _ _ (below_all _ _ _ _ c.loop-set-test.true c.single-set-end.ensures (omega arith)) c.loop-set.invariant _ c.is_connected.ensures w.if-is_connected.false)
     ]
 

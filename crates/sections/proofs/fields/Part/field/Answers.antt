@@ -1,5 +1,5 @@
 -- `field` judges a field as its definition does: whole first, then its range.
-use Rattle.std.proofs.Common.{rules, ◌≤◌, ◌≡◌, ◌&&◌, leb}
+use Rattle.std.proofs.Common.{rules, ◌≡◌, ◌&&◌, leb}
 use Rattle.sections.proofs.Reading.{field_cut, field_out, field_whole}
 use Rattle.sections.proofs.fields.Part.field.Goals as goal
 

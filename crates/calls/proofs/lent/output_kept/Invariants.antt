@@ -1,9 +1,0 @@
--- `output_kept` ends, and looks only below the place where it is to stop.
-use Rattle.std.proofs.Common.{◌-◌, ◌≤◌}
-use Rattle.calls.proofs.lent.output_kept.Given as goal
-
-abbrev pub invariant-loop-i : goal.invariant-loop-i
-invariant-loop-i l = l.to ≤ 4096
-
-abbrev pub decreases-loop-i : goal.decreases-loop-i
-decreases-loop-i l = l.to - l.i

@@ -1,0 +1,36 @@
+-- What a listing says, as rule 10.2 has it: a line for the answer, and one for each step.
+use Rattle.std.specs.Prelude.{ℕ, zero, suc, ◌==◌, if◌then◌else◌, List, [], ◌∷◌, ◌++◌, codes, drop, get_or, Option, Some, None, Result, Ok, Err}
+use Rattle.std.specs.Fmt.{decimal}
+use Rattle.planner.specs.declared.Refusal.{Refusal}
+use Rattle.planner.specs.declared.Solution.{Solution}
+use Rattle.planner.specs.declared.Solution.TheVariants.{Found, NoRoute}
+use Rattle.plan.specs.declared.listing.Listing.{Listing}
+
+-- `load 0`, `send 2`, `join 1`
+abbrev pub word : (kind : ℕ) → List ℕ
+word kind = if kind == 1 then codes "load " else (if kind == 2 then codes "send " else codes "join ")
+
+abbrev pub step_text : (kind arg : ℕ) → List ℕ
+step_text kind arg = word kind ++ decimal arg
+
+-- So many steps, each a byte for its kind and one for its argument.
+unfoldable pub steps_text : ℕ → List ℕ → List ℕ
+steps_text zero bytes = []
+steps_text (suc n) [] = []
+steps_text (suc n) (kind ∷ []) = []
+steps_text (suc n) (kind ∷ arg ∷ bytes) = (step_text kind arg ++ codes "\n") ++ steps_text n bytes
+
+-- `plan 4 cost 21 trials 3`, and the steps
+abbrev pub plan_text : (cost trials : ℕ) → List ℕ → List ℕ
+plan_text c t plan =
+    codes "plan " ++ (decimal (get_or plan 0 0) ++ (codes " cost " ++ (decimal c ++ (codes " trials " ++ (decimal t ++ (codes "\n" ++
+    steps_text (get_or plan 0 0) (drop 1 plan)))))))
+
+-- A refusal tells its own line.
+abbrev pub text_of : Result Solution Refusal → List ℕ → Option (List ℕ)
+text_of (Ok (Found c l t)) output = Some (plan_text c.0 t output)
+text_of (Ok (NoRoute t)) output = Some (codes "no route trials " ++ decimal t ++ codes "\n")
+text_of (Err r) output = None
+
+abbrev pub text : Listing → Option (List ℕ)
+text l = text_of l.answer l.output
