@@ -7,25 +7,11 @@ use lib.ListN.{length, get_or, set, replicate, length-set, get_or-replicate}
 use lib.Seq.{get_or-set_same, get_or-set_other}
 use Rattle.std.proofs.lemmas.Grind.{common_steps}
 use Rattle.relations.specs.Growth.{first}
-use Rattle.relations.specs.Trees.{Tree}
-use Rattle.relations.specs.Code.{Drawn}
 use Rattle.query.specs.declared.Query.{Query}
 use Rattle.query.proofs.Prices.{spared_alone}
-use Rattle.query.specs.Query.{Valid, relations_of, sites_of, home}
+use Rattle.query.specs.Query.{Valid, relations_of, sites_of}
 use Rattle.board.specs.Board.{entries, BoardOf, spareable_of}
 use Rattle.board.specs.Laying.{Kept, JoiningLaid, RelationsLaid, PairsLaid, LinesLaid}
-
--- What a valid query grants the steps: its joins make a tree and are drawn, and its homes are numbers of sites.
-pub tree_here : (q : Query) → Valid q → Tree q.joins (q.joins.count + 1)
-tree_here q v = rw v.tree.joins v.tree
-
-pub drawn_here : (q : Query) → Valid q → Drawn q.joins
-drawn_here q v =
-    let t = tree_here q v in
-    record { few = omega (arith, v.tree.joins, v.relations_most); first_in = t.first_in; second_in = t.second_in }
-
-pub home_low : (q : Query) → Valid q → (r : ℕ) → r < relations_of q → home q r < 8
-home_low q v r h = omega (arith, v.homes r h, v.sites_most)
 
 -- All of it: what is laid stays, as every later step stores elsewhere. No row had anything before.
 pub board_laid : (q : Query) → Valid q → (o a b c d : List ℕ) → o ≡ replicate entries 0 →

@@ -16,7 +16,7 @@ use Rattle.query.proofs.Prices.{spared_alone}
 use Rattle.board.specs.Figures.{Lanes}
 use Rattle.board.specs.Board.{entries, lane, fixed_of, spareable_of}
 use Rattle.board.specs.Laying.{Laid, JoiningLaid, RelationsLaid}
-use Rattle.board.proofs.LaidBoard.{drawn_here}
+use Rattle.board.proofs.Here.{drawn_here}
 
 -- The rows of the joins and of joining: each is laid once, and no later row of the four touches it.
 pub joining_laid : (a b c d e v w f g ends sides : List ℕ) (q : Query) → Valid q → length a ≡ entries →

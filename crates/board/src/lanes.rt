@@ -5,7 +5,7 @@ ghost use Rattle.board.specs.Board.{ends_at, side_at, operand_row, spared_row, h
 
 use relations::Parts;
 
-// How many entries it has: forty rows.
+// How many entries it has: forty rows. An array and no struct of named rows: which row is read is often worked out, as for a sender or a set.
 pub const BOARD: usize = 320;
 
 // The ends and the side of each join, the fixed amount and the rate of joining at each site.

@@ -9,7 +9,8 @@ use board::{BOARD, Choice, NONE, better, lesser, sites_of};
 use query::Bytes;
 use sender::line_at;
 
-// How many figures a table of routes has: those of up to seven sends, a lane a site.
+// How many figures a table of routes has: those of up to seven sends, a lane a site. Flat as the board is, and not a list of rows: one law of stores at
+// 8 * i + k serves reading a row while the next is written.
 pub(crate) const ROUTES: usize = 64;
 
 // The least of the figures at the sites below a number of them, and its lowest site.

@@ -44,7 +44,8 @@ fn put_sends(
     put_sends(board, table, out, place, size, t, next.at, i - 1)
 }
 
-// Writes the sends of the cheapest route from k to t, whose carriage is known: with one send more each turn until that is what they cost.
+// Writes the sends of the cheapest route from k to t, whose carriage is known: with one send more each turn until that is what they cost. There is such a
+// number of sends, so a `for` over all of them would end in a case that never comes.
 fn put_detour(
     board: &[u64; BOARD],
     out: &mut [u8],

@@ -14,7 +14,7 @@ use Rattle.std.proofs.lemmas.List.FromFn.{length-range_with_len, get_or-range_wi
 use Rattle.relations.proofs.Leads.{clash}
 use Rattle.board.specs.Figures.{none_mark}
 use Rattle.board.specs.Board.{line_fixed_at, line_rate_at, sites_at}
-use Rattle.sender.specs.Detours.{enough, DirectAt, DirectOver, OtherLines}
+use Rattle.sender.specs.Detours.{enough, DirectAt, DirectOver, Direct, OtherLines}
 
 -- What has enough in both parts is no detour that pays.
 pub spare_direct : (b lines : List ℕ) (a m t to on rates closed x y : ℕ) → OtherLines b a lines → t < 8 → to ≡ line_fixed_at b a m → on ≡ line_fixed_at b m t →

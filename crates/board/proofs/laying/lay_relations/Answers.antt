@@ -2,7 +2,7 @@
 use native.Mathlib.Omega.{arith}
 use borrow.Author.Rules.{rules}
 use Rattle.query.specs.Query.{home}
-use Rattle.board.proofs.LaidBoard.{home_low}
+use Rattle.board.proofs.Here.{home_low}
 use Rattle.board.proofs.LaidSteps.{relations_more}
 use Rattle.board.proofs.laying.lay_relations.Goals as goal
 
