@@ -103,7 +103,7 @@ pub fn solve(p: Planner, cells: &mut [u64], output: &mut [u8]) -> Result<Solutio
         return Err(Refusal::FewCells);
     }
     let mut plan = [0u8; LONGEST_PLAN];
-    let solution = solver::solve(standing.query, cells, &mut plan);
+    let solution = solver::solve(&standing.query, cells, &mut plan);
     if let Solution::Found { length, .. } = solution {
         if output.len() < length {
             return Err(Refusal::ShortOutput);
