@@ -19,12 +19,7 @@ impl fmt::Display for Hex<'_> {
 
 pub(crate) fn of_load(out: &impl Print, answer: Result<Loaded, Refusal>) -> io::Result<()> {
     match answer {
-        Ok(
-            Loaded {
-                relations,
-                subqueries,
-            },
-        ) => println!(out; "load {relations} {subqueries}"),
+        Ok(load) => println!(out; "load {} {}", load.relations, load.subqueries),
         Err(refusal) => println!(out; "{refusal}"),
     }
 }
@@ -108,13 +103,7 @@ pub(crate) fn of_check(out: &impl Print, answer: Result<Charge, Rejection>) -> i
 
 pub(crate) fn of_room(out: &impl Print, answer: Result<Figures, Refusal>) -> io::Result<()> {
     match answer {
-        Ok(
-            Figures {
-                subqueries,
-                cells,
-                trials,
-            },
-        ) => println!(out; "room {subqueries} {cells} {trials}"),
+        Ok(room) => println!(out; "room {} {} {}", room.subqueries, room.cells, room.trials),
         Err(refusal) => println!(out; "{refusal}"),
     }
 }

@@ -6,7 +6,8 @@ use std::io;
 use std::io::Read;
 
 // The next record; one that is unknown ends the run as well.
-// Its number is a byte of the script, which stands here and nowhere else: an enum would only say each twice.
+// Its number is a byte of the script that stands here and nowhere else: an enum would only say each twice.
+// The loads go in as closures: by its name alone, the check does not see the contract of another crate's function.
 pub(crate) fn next(
     script: &mut impl Read,
     out: &impl Print,

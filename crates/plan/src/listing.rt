@@ -20,7 +20,7 @@ struct Step {
     arg: u8,
 }
 
-// `load 0`, `send 2` or `join 1`
+// `load 0`, `send 2` or `join 1`. The kinds are the output's bytes, told apart here alone: an enum would only say each twice.
 impl fmt::Display for Step {
     ghost output = { λ s. Some (step_text s.kind s.arg) };
 
@@ -65,13 +65,7 @@ impl fmt::Display for Listing {
         match self.answer {
             Err(refusal) => writeln!(f, "{refusal}"),
             Ok(Solution::NoRoute { trials }) => writeln!(f, "no route trials {trials}"),
-            Ok(
-                Solution::Found {
-                    cost,
-                    length: _,
-                    trials,
-                },
-            ) => {
+            Ok(Solution::Found { cost, trials, .. }) => {
                 let (count, cost) = (self.output[0], cost.0);
                 let steps = Steps {
                     count,

@@ -17,6 +17,7 @@ fn main(rt: HostRuntime) {
 }
 
 // Reads until the buffer is full, the input ends or a read fails, and answers how many bytes stand at the buffer's front.
+// (`read_exact` does not say how many came before the end, and `read_to_end` takes memory.)
 fn read_full(input: &mut impl Read, buffer: &mut [u8]) -> usize
     ensures { result ≤ length buffer.new }
 {
