@@ -1,5 +1,6 @@
--- The numbers of the refusals (rules 8.1 and 8.2).
-use Rattle.std.specs.Prelude.{ℕ}
+-- The numbers of the refusals (rules 8.1 and 8.2), and what one says (rule 10.2).
+use Rattle.std.specs.Prelude.{ℕ, List, ◌++◌, codes}
+use Rattle.std.specs.Fmt.{decimal}
 use Rattle.query.specs.declared.refusal.Refusal.{Refusal}
 use Rattle.query.specs.declared.refusal.Refusal.TheVariants.{Cut, WrongCount, OutOfRange, NotReached, BytesFollow, LinkSites, PlanLength, UnknownStep, LoadedBefore, SendNotAllowed, JoinNotAllowed, WrongEnd, NothingLoaded, FewCells, ShortOutput}
 
@@ -19,3 +20,7 @@ number_of WrongEnd = 12
 number_of NothingLoaded = 20
 number_of FewCells = 21
 number_of ShortOutput = 23
+
+-- `refused 4`
+abbrev pub refused_text : Refusal → List ℕ
+refused_text r = codes "refused " ++ decimal (number_of r)

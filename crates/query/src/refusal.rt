@@ -1,6 +1,6 @@
 // Why a file, a call, a plan or a step of one is refused.
-ghost use Rattle.std.specs.Prelude.{◌≤◌, ◌≡◌};
-ghost use Rattle.query.specs.Refusals.{number_of};
+ghost use Rattle.std.specs.Prelude.{◌≤◌, ◌≡◌, Some};
+ghost use Rattle.query.specs.Refusals.{number_of, refused_text};
 
 use std::fmt;
 
@@ -36,6 +36,8 @@ impl Refusal {
 
 // `refused 4`
 impl fmt::Display for Refusal {
+    ghost output = { λ r. Some (refused_text r) };
+
     fn fmt<W: fmt::Write>(&self, f: &mut fmt::Formatter<W>) -> fmt::Result {
         write!(f, "refused {}", self.number())
     }
