@@ -1,7 +1,8 @@
 -- What a listing says, as rule 10.2 has it: a line for the answer, and one for each step.
-use Rattle.std.specs.Prelude.{ℕ, zero, suc, ◌==◌, if◌then◌else◌, List, [], ◌∷◌, ◌++◌, codes, drop, get_or, Option, Some, None, Result, Ok, Err}
+use Rattle.std.specs.Prelude.{ℕ, zero, suc, ◌==◌, if◌then◌else◌, List, [], ◌∷◌, ◌++◌, codes, drop, get_or, Result, Ok, Err}
 use Rattle.std.specs.Fmt.{decimal}
-use Rattle.planner.specs.declared.Refusal.{Refusal}
+use Rattle.query.specs.declared.refusal.Refusal.{Refusal}
+use Rattle.query.specs.Refusals.{refused_text}
 use Rattle.planner.specs.declared.Solution.{Solution}
 use Rattle.planner.specs.declared.Solution.TheVariants.{Found, NoRoute}
 use Rattle.plan.specs.declared.listing.Listing.{Listing}
@@ -26,11 +27,10 @@ plan_text c t plan =
     codes "plan " ++ (decimal (get_or plan 0 0) ++ (codes " cost " ++ (decimal c ++ (codes " trials " ++ (decimal t ++ (codes "\n" ++
     steps_text (get_or plan 0 0) (drop 1 plan)))))))
 
--- A refusal tells its own line.
-abbrev pub text_of : Result Solution Refusal → List ℕ → Option (List ℕ)
-text_of (Ok (Found c l t)) output = Some (plan_text c.0 t output)
-text_of (Ok (NoRoute t)) output = Some (codes "no route trials " ++ decimal t ++ codes "\n")
-text_of (Err r) output = None
+abbrev pub text_of : Result Solution Refusal → List ℕ → List ℕ
+text_of (Ok (Found c l t)) output = plan_text c.0 t output
+text_of (Ok (NoRoute t)) output = codes "no route trials " ++ decimal t ++ codes "\n"
+text_of (Err r) output = refused_text r ++ codes "\n"
 
-abbrev pub text : Listing → Option (List ℕ)
+abbrev pub text : Listing → List ℕ
 text l = text_of l.answer l.output

@@ -59,7 +59,7 @@ impl fmt::Display for Steps<'_> {
 
 // `plan 4 cost 21 trials 3` and the steps, `no route trials 3` or `refused 4`.
 impl fmt::Display for Listing {
-    ghost output = { text };
+    ghost output = { λ l. Some (text l) };
 
     fn fmt<W: fmt::Write>(&self, f: &mut fmt::Formatter<W>) -> fmt::Result {
         match self.answer {
