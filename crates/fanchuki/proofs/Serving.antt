@@ -1,4 +1,4 @@
--- One law for each way through the report server's call: what the answer of each call makes of the definition.
+-- What the answer of solve, over cells enough, makes of the definition of the report server's call.
 use Rattle.std.proofs.Common.{Result}
 use Prim.Native.Nat.{ℕ, ◌≤◌}
 use mathlib.Core.Path.{◌≡◌}

@@ -26,7 +26,7 @@ fn sites_listed(s: u64, sender: u64, receiver: u64) -> bool
     (sender < s) & (receiver < s) & (sender != receiver)
 }
 
-// The terms of a link are in range.
+// The terms of a link are in range: the numbers that the call brings, before they fit the types of `Terms`.
 #[tactic(auto, unfolding(crate::specs::Link::terms_in_range))]
 fn terms_in_range(opened: u64, fixed: u64, rate: u64) -> bool
     ensures { result ≡ terms_in_range (record { flag = opened; fixed = fixed; rate = rate }) }

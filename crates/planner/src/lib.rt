@@ -18,7 +18,7 @@ pub use solver::Solution;
 // The most cells that solve ever needs (`most_cells`).
 pub const CELLS: usize = 2112;
 
-// The standing state: a query, or nothing. Its field is private, so that only the calls make one.
+// The standing state: a query, or nothing. Its field is private, so that only the calls make one. It goes in and comes back by value.
 #[derive(Clone, Copy)]
 pub struct Planner {
     standing: Option<Standing>,

@@ -4,32 +4,20 @@ use Prim.Native.Nat.{ℕ, ◌+◌}
 use native.Mathlib.Omega.{arith}
 use mathlib.Core.Path.{◌≡◌, refl, ap, ◌∙◌}
 use mathlib.Core.List.{List}
-use mathlib.Core.Option.{none}
 use lib.ListN.{length}
 use Rattle.planner.specs.declared.Planner.{Planner}
-use Rattle.planner.specs.declared.Loaded.{Loaded}
 use Rattle.query.specs.declared.refusal.Refusal.{Refusal}
 use Rattle.solver.specs.declared.Solution.{Solution}
-use Rattle.planner.specs.State.{State}
-use Rattle.planner.specs.Load.{load}
 use Rattle.planner.specs.Solve.{Answer, found, no_route, refused, Solving, solving_of, solve, blank}
-use Rattle.planner.specs.Code.{state_of, done_of, of_load, of_solve}
+use Rattle.planner.specs.Code.{state_of, of_solve}
 use Rattle.planner.proofs.Cells.{ample_cells, needed_enough, solve_enough}
 use Rattle.planner.proofs.Again.{solve_again}
-use Rattle.timed.specs.Found.{found_by, answer_in, plans_found}
+use Rattle.timed.specs.Found.{found_by, answer_in}
 
 one_more : (a : Answer) (i : ℕ) → found_by a i + found_by a 1 ≡ found_by a (i + 1)
 one_more (found c l t) i = refl
 one_more (no_route t) i = refl
 one_more (refused k) i = refl
-
-none_at_first : (a : Answer) → 0 ≡ found_by a 0
-none_at_first (found c l t) = refl
-none_at_first (no_route t) = refl
-none_at_first (refused k) = refl
-
-pub counted_none : (s : State) → 0 ≡ found_by (answer_in s) 0
-counted_none s = none_at_first (answer_in s)
 
 -- A turn, over cells enough and an output with room for the longest plan.
 module _
@@ -44,12 +32,3 @@ module _
     pub counted_more :
         (count r i : ℕ) → count ≡ found_by (answer_in (state_of p)) i → r ≡ found_by (of_solve a) 1 → count + r ≡ found_by (answer_in (state_of p)) (i + 1)
     counted_more count r i counted one = rw (counted, one, as_defined) (one_more (answer_in (state_of p)) i)
-
--- The query stands that load made of an empty planner.
-pub loaded_plans :
-    (empty p : Planner) (a : Result Loaded Refusal) (file : List ℕ) (times r : ℕ) → state_of empty ≡ none → done_of (of_load a) p ≡ load file (state_of empty) →
-    r ≡ found_by (answer_in (state_of p)) times → r ≡ plans_found file times
-unfolding plans_found
-loaded_plans empty p a file times r e done h = rw (← e, ← done) h
-
-pub ruleset counting = (counted_none, counted_more, loaded_plans)

@@ -35,6 +35,7 @@ fn solves(p: Planner, times: u64) -> u64
 
 // Loads a query once and solves it so many times.
 #[unsafe(no_mangle)]
+#[tactic(auto, unfolding(crate::specs::Found::plans_found))]
 pub extern "C" fn fanchuki_solves(query: &[u8], times: u64) -> u64
     ensures { result ≡ plans_found query.now times }
 {
@@ -42,7 +43,6 @@ pub extern "C" fn fanchuki_solves(query: &[u8], times: u64) -> u64
 }
 
 // The planner that a load of a file of either form leaves.
-#[tactic(auto, using(crate::proofs::Standing::standings))]
 fn loaded(p: Planner, form: Form, file: &[u8]) -> Planner
     ensures { state_of result ≡ (load_by form file.now (state_of p)).next }
 {
@@ -53,7 +53,7 @@ fn loaded(p: Planner, form: Form, file: &[u8]) -> Planner
 }
 
 // Loads so many times, each on the planner that the one before handed back, and then solves once.
-#[tactic(auto, using(crate::proofs::Standing::standings))]
+#[tactic(auto, unfolding(crate::specs::Loads::standing))]
 fn loads(form: Form, file: &[u8], times: u64) -> u64
     ensures { result ≡ plan_after (load_by form) file.now times }
 {
