@@ -1,21 +1,27 @@
 // The sends of a route, written as steps of a plan.
-ghost use Rattle.std.specs.Prelude.{◌+◌, ◌≤◌, ◌<◌, [], ◌∷◌, length};
+ghost use Rattle.std.specs.Prelude.{◌+◌, ◌≤◌, ◌<◌, length};
 ghost use Rattle.tables.specs.Written.{send_steps, step_bytes};
 ghost use Rattle.board.specs.Board.{sites_at};
 ghost use Rattle.sender.specs.Delivering.{Carriable};
-ghost use Rattle.router.specs.Wrote.{Wrote};
+ghost use Rattle.router.specs.Wrote.{Wrote, arg_of, bytes_of};
 ghost use Rattle.router.specs.Routing.{RoutesTo, stops_in, route_in, Carried};
 
 use crate::routing::{ROUTES, add_sends, next_site};
 use board::{BOARD, NONE};
 use query::Bytes;
+use rules::Step;
 use sender::line_at;
 
-// Writes a step: its kind and its argument.
-pub fn put(out: &mut [u8], at: usize, kind: u8, arg: usize) -> usize
-    requires { (at + 2 ≤ length out.old) × (arg < 256) }
-    ensures { Wrote out.old at (kind ∷ (arg ∷ [])) result out.new }
+// Writes a step.
+pub fn put(out: &mut [u8], at: usize, step: Step) -> usize
+    requires { (at + 2 ≤ length out.old) × (arg_of step < 256) }
+    ensures { Wrote out.old at (bytes_of step) result out.new }
 {
+    let (kind, arg) = match step {
+        Step::Load(r) => (1, r),
+        Step::Send(t) => (2, t),
+        Step::Join(e) => (3, e),
+    };
     out[at] = kind;
     out[at + 1] = arg as u8;
     at + 2
@@ -40,7 +46,7 @@ fn put_sends(
         return at;
     }
     let next = next_site(board, table, size, i - 1, k);
-    let place = put(out, at, 2, next.at);
+    let place = put(out, at, Step::Send(next.at));
     put_sends(board, table, out, place, size, t, next.at, i - 1)
 }
 
@@ -88,7 +94,7 @@ pub fn put_route(
     }
     let sent = line_at(board, size, k, t);
     if sent.0 == carried {
-        return put(out, at, 2, t);
+        return put(out, at, Step::Send(t));
     }
     put_detour(board, out, at, size, k, t, carried)
 }

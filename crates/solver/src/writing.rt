@@ -23,6 +23,7 @@ use board::{BOARD, Choice, NONE, better, ends_at, homes_at, joins_of, side_at, s
 use filler::Tables;
 use relations::{bit, single, split, whole, within};
 use router::{put, put_route, site_for};
+use rules::Step;
 use sender::routed_row;
 
 // Join e as a bit where it lies in the set, else nothing.
@@ -123,7 +124,7 @@ fn write_delivered(tables: Tables<'_>, out: &mut [u8], at: usize, due: Due) -> u
     if due.set.count_ones() == 1 {
         let r = due.set.trailing_zeros() as usize;
         let home = homes_at(tables.board, r).trailing_zeros() as usize;
-        let next = put(&mut *out, at, 1, r);
+        let next = put(&mut *out, at, Step::Load(r));
         return put_route(
             tables.board,
             &mut *out,
@@ -160,7 +161,7 @@ fn write_joined(tables: Tables<'_>, out: &mut [u8], at: usize, set: usize, k: us
     let next = write_delivered(tables, &mut *out, at, one);
     let other = due_at(tables, parts.second, k);
     let last = write_delivered(tables, &mut *out, next, other);
-    put(&mut *out, last, 3, e)
+    put(&mut *out, last, Step::Join(e))
 }
 
 // Writes the plan: its count of steps, then the steps.
