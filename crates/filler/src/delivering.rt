@@ -5,12 +5,11 @@ ghost use Rattle.tables.specs.Work.{most_cells};
 ghost use Rattle.filler.specs.Cells.{reach, Stored};
 ghost use Rattle.board.specs.Board.{sites_at};
 ghost use Rattle.sender.specs.Detours.{Direct};
-ghost use Rattle.sender.specs.Delivering.{Carriable, DeliveredFrom};
+ghost use Rattle.sender.specs.Delivering.{DeliveredFrom};
 
 use crate::placing::reach;
-use board::{BOARD, sites_of};
-use query::Bytes;
-use sender::{direct_row, routed_row};
+use board::sites_of;
+use sender::Freight;
 
 // The cells of a subquery, two at a time. Those beyond its sites are the next row's, where a figure then stands until that row is stored.
 fn store(work: &mut [u64], row: &[u64; 8], at: usize, sites: usize)
@@ -28,21 +27,20 @@ fn store(work: &mut [u64], row: &[u64; 8], at: usize, sites: usize)
 // it once for all subqueries. Each row is stored where it is made, so that it is not moved before.
 pub(crate) fn deliver(
     work: &mut [u64],
-    board: &[u64; BOARD],
+    freight: Freight<'_>,
     row: [u64; 8],
-    size: Bytes,
     at: usize,
     direct: bool,
 )
-    requires { ((1 ≤ sites_at board.now) × (Marked row × (Carriable board.now size.0 × (direct ≡ true → Direct board.now (sites_at board.now))))) × ((at ≤ most_cells) × (at + reach (sites_at board.now) ≤ length work.old)) }
-    ensures { (r : List ℕ) × (DeliveredFrom board.now size.0 (λ (k : ℕ). get_or row k 0) r ×
-        Stored work.old work.new at (λ (t : ℕ). get_or r t 0) (reach (sites_at board.now))) }
+    requires { ((1 ≤ sites_at freight.board.now) × (Marked row × (direct ≡ true → Direct freight.board.now (sites_at freight.board.now)))) × ((at ≤ most_cells) × (at + reach (sites_at freight.board.now) ≤ length work.old)) }
+    ensures { (r : List ℕ) × (DeliveredFrom freight.entry.board.now freight.entry.size.0 (λ (k : ℕ). get_or row k 0) r ×
+        Stored work.old work.new at (λ (t : ℕ). get_or r t 0) (reach (sites_at freight.entry.board.now))) }
 {
     if direct {
-        let cells = direct_row(board, row, size);
-        store(work, &cells, at, sites_of(board));
+        let cells = freight.direct_row(row);
+        store(work, &cells, at, sites_of(freight.board));
         return;
     }
-    let cells = routed_row(board, row, size);
-    store(work, &cells, at, sites_of(board));
+    let cells = freight.routed_row(row);
+    store(work, &cells, at, sites_of(freight.board));
 }

@@ -2,12 +2,10 @@
 ghost use Rattle.std.specs.Prelude.{ℕ, ◌+◌, ◌*◌, ◌≤◌, ◌<◌, ◌≡◌, get_or};
 ghost use Rattle.board.specs.Figures.{none_mark, least_of, ChoiceOf};
 ghost use Rattle.board.specs.Board.{sites_at};
-ghost use Rattle.sender.specs.Delivering.{Carriable};
 ghost use Rattle.router.specs.Routing.{first_to, Figured, SendsAdded, RoutesTo};
 
 use board::{BOARD, Choice, NONE, better, lesser, sites_of};
-use query::Bytes;
-use sender::line_at;
+use sender::Freight;
 
 // How many figures a table of routes has: those of up to seven sends, a lane a site. Flat as the board is, and not a list of rows: one law of stores at
 // 8 * i + k serves reading a row while the next is written.
@@ -29,42 +27,36 @@ pub(crate) fn least_at<F: Fn(usize) -> u64>(sites: usize, figure: F) -> Choice
 }
 
 // The lowest next site of the cheapest route of i + 1 sends from k, by a table with the figures of i sends.
-pub(crate) fn next_site(
-    board: &[u64; BOARD],
-    table: &[u64; ROUTES],
-    size: Bytes,
-    i: usize,
-    k: usize,
-) -> Choice
-    requires { Carriable board.now size.0 × ((k < sites_at board.now) × ((i < 8) × Figured table.now)) }
-    ensures { ChoiceOf (first_to board.now size.0 k (λ (m : ℕ). get_or table.now (8 * i + m) 0)) (sites_at board.now) result }
+pub(crate) fn next_site(freight: Freight<'_>, table: &[u64; ROUTES], i: usize, k: usize) -> Choice
+    requires { (k < sites_at freight.board.now) × ((i < 8) × Figured table.now) }
+    ensures { ChoiceOf (first_to freight.entry.board.now freight.entry.size.0 k (λ (m : ℕ). get_or table.now (8 * i + m) 0)) (sites_at freight.entry.board.now) result }
 {
-    least_at(sites_of(board), |m| {
-        let sent = line_at(board, size, k, m);
+    least_at(sites_of(freight.board), |m| {
+        let sent = freight.line_at(k, m);
         sent.0 + table[8 * i + m]
     })
 }
 
 // The figures of i + 1 sends, by those of i sends.
-pub(crate) fn add_sends(table: &mut [u64; ROUTES], board: &[u64; BOARD], size: Bytes, i: usize)
-    requires { Carriable board.now size.0 × ((i < 7) × Figured table.old) }
-    ensures { SendsAdded board.now size.0 i table.old table.new (sites_at board.now) }
+pub(crate) fn add_sends(table: &mut [u64; ROUTES], freight: Freight<'_>, i: usize)
+    requires { (i < 7) × Figured table.old }
+    ensures { SendsAdded freight.entry.board.now freight.entry.size.0 i table.old table.new (sites_at freight.entry.board.now) }
 {
-    for k in 0..sites_of(board) {
-        let best = next_site(board, table, size, i, k);
+    for k in 0..sites_of(freight.board) {
+        let best = next_site(freight, table, i, k);
         table[8 * (i + 1) + k] = best.figure;
     }
 }
 
 // The figures of every number of sends from every site to t.
-pub(crate) fn routes_to(board: &[u64; BOARD], size: Bytes, t: usize) -> [u64; ROUTES]
-    requires { Carriable board.now size.0 × (t < 8) }
-    ensures { RoutesTo board.now size.0 t (sites_at board.now) result }
+pub(crate) fn routes_to(freight: Freight<'_>, t: usize) -> [u64; ROUTES]
+    requires { t < 8 }
+    ensures { RoutesTo freight.entry.board.now freight.entry.size.0 t (sites_at freight.entry.board.now) result }
 {
     let mut table = [NONE; ROUTES];
     table[t] = 0;
-    for i in 1..sites_of(board) {
-        add_sends(&mut table, board, size, i - 1);
+    for i in 1..sites_of(freight.board) {
+        add_sends(&mut table, freight, i - 1);
     }
     table
 }

@@ -59,7 +59,7 @@ fn direct_from(board: &[u64; BOARD], a: usize) -> bool
     (0..sites_of(board)).all(|m| spare_over(board, &lines, a, m) >= ENOUGH)
 }
 
-// Whether no detour can. Two sites have none.
+// Whether no detour can. Two sites have none. What holds for all sizes is asked of the board alone.
 pub fn is_direct(board: &[u64; BOARD]) -> bool
     requires { Carriable board.now 0 }
     ensures { result ≡ true → Direct board.now (sites_at board.now) }

@@ -2,11 +2,10 @@
 ghost use Rattle.std.specs.Prelude.{ℕ, ◌≤◌, ◌<◌, ◌≡◌, ◌⊎◌, get_or};
 ghost use Rattle.relations.specs.Sets.{bit};
 ghost use Rattle.board.specs.Figures.{Marked};
-ghost use Rattle.sender.specs.Delivering.{Carriable, DeliveredFrom, Nearest};
+ghost use Rattle.sender.specs.Delivering.{DeliveredFrom, Nearest};
 
-use crate::lines::send_from;
-use board::{BOARD, sites_of};
-use query::Bytes;
+use crate::lines::Freight;
+use board::sites_of;
 use relations::{bit, single, whole};
 
 // The site k, where it is left and has a lesser figure than the site at; else that one.
@@ -34,19 +33,21 @@ fn nearest(row: &[u64; 8], left: usize) -> usize
     at
 }
 
-// Delivered over routes: the nearest site that is left sends over its lines, until none is left. What comes later starts from no less, so it undercuts
-// no site that has sent.
-pub fn routed_row(board: &[u64; BOARD], row: [u64; 8], size: Bytes) -> [u64; 8]
-    requires { Marked row × Carriable board.now size.0 }
-    ensures { DeliveredFrom board.now size.0 (λ (k : ℕ). get_or row k 0) result }
-{
-    let mut best = row;
-    let mut left = whole(sites_of(board));
-    while left != 0 {
-        let k = nearest(&best, left);
-        let figure = best[k];
-        send_from(&mut best, board, figure, size, k);
-        left -= single(k);
+impl Freight<'_> {
+    // Delivered over routes: the nearest site that is left sends over its lines, until none is left. What comes later starts from no less, so it
+    // undercuts no site that has sent.
+    pub fn routed_row(self, row: [u64; 8]) -> [u64; 8]
+        requires { Marked row }
+        ensures { DeliveredFrom self.entry.board.now self.entry.size.0 (λ (k : ℕ). get_or row k 0) result }
+    {
+        let mut best = row;
+        let mut left = whole(sites_of(self.board));
+        while left != 0 {
+            let k = nearest(&best, left);
+            let figure = best[k];
+            self.send_from(&mut best, figure, k);
+            left -= single(k);
+        }
+        best
     }
-    best
 }

@@ -56,6 +56,9 @@ module _ (combine : ℕ → ℕ → ℕ) (C : Combines combine) (l : Lent) where
   pub set_low : (S t c : ℕ) (q : Query) → ToDeliver combine q l S t c → S < most_sets
   set_low S t c q d = known_low combine C q l S d.known
 
+  pub set_carriable : (S t c x : ℕ) → x ≡ size_in l S → (q : Query) → ToDeliver combine q l S t c → Carriable l.board x
+  set_carriable S t c x size q d = carriable combine C q l S d.known x size
+
   pub one_low : (S t c : ℕ) (q : Query) → ToDeliver combine q l S t c → ones S ≡ 1 → count_trailing_zeros 64 S < 9
   one_low S t c q d one = one_of_nine S one (known_low combine C q l S d.known)
 
@@ -78,16 +81,13 @@ module _ (combine : ℕ → ℕ → ℕ) (C : Combines combine) (l : Lent) where
 
     module _ (mid : List ℕ) (r : ℕ) (w : Wrote old at load r mid) (x : ℕ) (size : x ≡ size_in l S) where
       pub sent_asked : (p : Delivering S t c at old) →
-          (Carriable l.board x × (((count_trailing_zeros 64 homes < sites_at l.board) × (t < sites_at l.board)) × Carried l.board x (count_trailing_zeros 64 homes) t c))
+          (((count_trailing_zeros 64 homes < sites_at l.board) × (t < sites_at l.board)) × Carried l.board x (count_trailing_zeros 64 homes) t c)
           × (r + length (step_bytes (send_steps (route_in l.board x (count_trailing_zeros 64 homes) t))) ≤ length mid)
       sent_asked (q, (d, room)) =
           let laid = d.known.laid in (
             (
-              carriable combine C q l S d.known x size,
-              (
-                (omega (arith, laid.board.sites, home_listed combine C q l S t c d one homes homes-are), omega (arith, laid.board.sites, d.listed)),
-                rw size (one_carried combine C q l S t c d one homes homes-are),
-              ),
+              (omega (arith, laid.board.sites, home_listed combine C q l S t c d one homes homes-are), omega (arith, laid.board.sites, d.listed)),
+              rw size (one_carried combine C q l S t c d one homes homes-are),
             ),
             rw size (room_next old mid load sent _ at r (in_two q d) room w),
           )
@@ -111,10 +111,10 @@ module _ (combine : ℕ → ℕ → ℕ) (C : Combines combine) (l : Lent) where
 
     module _ (mid : List ℕ) (r : ℕ) (w : Joins S k at old r mid) (x : ℕ) (size : x ≡ size_in l S) where
       pub sent_on_asked : (p : Delivering S t c at old) (y : ℕ) → y ≡ carriage_in l.board (size_in l S) k t →
-          (Carriable l.board x × (((k < sites_at l.board) × (t < sites_at l.board)) × Carried l.board x k t y)) × (r + length (step_bytes (send_steps (route_in l.board x k t))) ≤ length mid)
+          (((k < sites_at l.board) × (t < sites_at l.board)) × Carried l.board x k t y) × (r + length (step_bytes (send_steps (route_in l.board x k t))) ≤ length mid)
       sent_on_asked (q, (d, room)) y carried =
           let laid = d.known.laid in (
-            (carriable combine C q l S d.known x size, ((omega (arith, laid.board.sites, (to_join q d).listed), omega (arith, laid.board.sites, d.listed)), rw size (more_carried combine C q l S t c k d more chosen y carried))),
+            ((omega (arith, laid.board.sites, (to_join q d).listed), omega (arith, laid.board.sites, d.listed)), rw size (more_carried combine C q l S t c k d more chosen y carried)),
             rw size (room_next old mid (joined_bytes q S k) sent_on _ at r (in_parts q d) room (w q (to_join q d))),
           )
 

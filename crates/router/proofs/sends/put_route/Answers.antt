@@ -7,15 +7,15 @@ use Rattle.router.proofs.Gates.{route_stays, direct_bytes}
 use Rattle.router.proofs.sends.put_route.Goals as goal
 
 pub returns-then-k-t : goal.returns-then-k-t
-returns-then-k-t c = rw (route_stays _ _ _ _ c.requires.carriable.1.0.0 c.if-k-t.true) (wrote_none _ _)
+returns-then-k-t c = rw (route_stays _ _ _ _ c.requires.carried.0.0 c.if-k-t.true) (wrote_none _ _)
 
 pub put-requires : goal.put-requires
 put-requires c =
-    let p = c.requires.carriable in
-    let bytes = direct_bytes _ _ _ _ _ _ p.1.0.0 p.1.0.1 c.if-k-t.false c.line_at-sent.ensures.0 c.if-sent-carried.true p.1.1 in
-    (omega (arith, c.requires.room, ap length bytes), omega (arith, p.1.0.1, p.0.few))
+    let p = c.requires.carried in
+    let bytes = direct_bytes _ _ _ _ _ _ p.0.0 p.0.1 c.if-k-t.false c.line_at-sent.ensures.0 c.if-sent-carried.true p.1 in
+    (omega (arith, c.requires.room, ap length bytes), omega (arith, p.0.1, c.args.freight.carriable.few))
 
 pub returns-then-sent-carried : goal.returns-then-sent-carried
 returns-then-sent-carried c =
-    let p = c.requires.carriable in
-    rw (direct_bytes _ _ _ _ _ _ p.1.0.0 p.1.0.1 c.if-k-t.false c.line_at-sent.ensures.0 c.if-sent-carried.true p.1.1) c.put.ensures
+    let p = c.requires.carried in
+    rw (direct_bytes _ _ _ _ _ _ p.0.0 p.0.1 c.if-k-t.false c.line_at-sent.ensures.0 c.if-sent-carried.true p.1) c.put.ensures

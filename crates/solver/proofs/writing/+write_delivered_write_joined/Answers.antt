@@ -1,7 +1,7 @@
 -- `writing::write_delivered` and `writing::write_joined` meet their contracts: each piece is written where the last one ended. Assumes nothing.
 use borrow.Author.Rules.{rules}
 use Rattle.rules.proofs.Combinations.{plus_combines}
-use Rattle.solver.proofs.Pieces.{one_few, one_low, set_low, last_low, load_room, sent_asked, one_delivers, join_asked, sent_on_asked, more_delivers, due_delivers, parts_in, joined_low, part_due, rest_due, last_asked, joins}
+use Rattle.solver.proofs.Pieces.{one_few, one_low, set_low, set_carriable, last_low, load_room, sent_asked, one_delivers, join_asked, sent_on_asked, more_delivers, due_delivers, parts_in, joined_low, part_due, rest_due, last_asked, joins}
 use Rattle.solver.proofs.writing.+write_delivered_write_joined.Goals as goal
 
 pub write_delivered-homes_at-requires : goal.write_delivered-homes_at-requires
@@ -13,10 +13,16 @@ write_delivered-put-next-requires t c = (search (rules, load_room, plus_combines
 pub write_delivered-size_of-requires : goal.write_delivered-size_of-requires
 write_delivered-size_of-requires t c = let p = c.requires in set_low _ plus_combines _ _ _ _ p.0 p.1.0
 
+pub write_delivered-invariant_of-freight : goal.write_delivered-invariant_of-freight
+write_delivered-invariant_of-freight t c = let p = c.requires in record { carriable = set_carriable _ plus_combines _ _ _ _ _ c.size_of.ensures p.0 p.1.0 }
+
+pub write_delivered-invariant_of-freight-2 : goal.write_delivered-invariant_of-freight-2
+write_delivered-invariant_of-freight-2 t c = let p = c.requires in record { carriable = set_carriable _ plus_combines _ _ _ _ _ c.size_of.ensures p.0 p.1.0 }
+
 pub write_delivered-put_route-requires : goal.write_delivered-put_route-requires
 write_delivered-put_route-requires t c =
     let asked = sent_asked _ plus_combines _ _ _ _ _ _ c.args.out.now c.if-due-eq1.true c.homes_at.ensures _ _ c.put-next.ensures _ c.size_of.ensures c.requires in
-    record { carriable = asked.0; room = asked.1 }
+    record { carried = asked.0; room = asked.1 }
 
 pub write_delivered-returns-then-due-eq1 : goal.write_delivered-returns-then-due-eq1
 write_delivered-returns-then-due-eq1 t c = one_delivers _ plus_combines _ _ _ _ _ _ c.args.out.now c.if-due-eq1.true c.homes_at.ensures _ _ c.put-next.ensures _ c.size_of.ensures _ _ c.put_route.ensures
@@ -24,16 +30,13 @@ write_delivered-returns-then-due-eq1 t c = one_delivers _ plus_combines _ _ _ _ 
 pub write_delivered-write_joined-next-requires : goal.write_delivered-write_joined-next-requires
 write_delivered-write_joined-next-requires t c = join_asked _ plus_combines _ _ _ _ _ _ c.args.out.now c.if-due-eq1.false c.join_site-from.ensures.0 _ (c.decreases, c.requires)
 
-pub write_delivered-size_of-requires-2 : goal.write_delivered-size_of-requires-2
-write_delivered-size_of-requires-2 t c = let p = c.requires in set_low _ plus_combines _ _ _ _ p.0 p.1.0
-
 pub write_delivered-put_route-requires-2 : goal.write_delivered-put_route-requires-2
 write_delivered-put_route-requires-2 t c =
-    let asked = sent_on_asked _ plus_combines _ _ _ _ _ _ c.args.out.now c.if-due-eq1.false c.join_site-from.ensures.0 _ _ c.write_joined-next.ensures _ c.size_of-2.ensures c.requires _ c.join_site-from.ensures.1 in
-    record { carriable = asked.0; room = asked.1 }
+    let asked = sent_on_asked _ plus_combines _ _ _ _ _ _ c.args.out.now c.if-due-eq1.false c.join_site-from.ensures.0 _ _ c.write_joined-next.ensures _ c.size_of.ensures c.requires _ c.join_site-from.ensures.1 in
+    record { carried = asked.0; room = asked.1 }
 
 pub write_delivered-returns : goal.write_delivered-returns
-write_delivered-returns t c = more_delivers _ plus_combines _ _ _ _ _ _ c.args.out.now c.if-due-eq1.false c.join_site-from.ensures.0 _ _ c.write_joined-next.ensures _ c.size_of-2.ensures _ _ c.put_route-2.ensures
+write_delivered-returns t c = more_delivers _ plus_combines _ _ _ _ _ _ c.args.out.now c.if-due-eq1.false c.join_site-from.ensures.0 _ _ c.write_joined-next.ensures _ c.size_of.ensures _ _ c.put_route-2.ensures
 
 pub write_joined-side_at-requires : goal.write_joined-side_at-requires
 write_joined-side_at-requires t c = search (rules, last_low, plus_combines)

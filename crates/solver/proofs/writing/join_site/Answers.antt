@@ -12,10 +12,13 @@ joined_row-row-requires c = joinable _ plus_combines _ _ _ c.requires.1.0.known 
 pub size_of-requires : goal.size_of-requires
 size_of-requires c = known_low _ plus_combines _ _ _ c.requires.1.0.known
 
+pub invariant_of-freight : goal.invariant_of-freight
+invariant_of-freight c = record { carriable = carriable _ plus_combines _ _ _ c.requires.1.0.known _ c.size_of.ensures }
+
 pub site_for-requires : goal.site_for-requires
 site_for-requires c =
     let p = c.requires.1 in let d = p.0 in record {
-      marked = (c.joined_row-row.ensures.1, (carriable _ plus_combines _ _ _ d.known _ c.size_of.ensures, omega (arith, d.listed, d.known.laid.board.sites)));
+      marked = (c.joined_row-row.ensures.1, omega (arith, d.listed, d.known.laid.board.sites));
       least = site_figure _ plus_combines _ _ _ d.known _ _ _ _ _ c.joins_within.ensures.0 c.joined_row-row.ensures.0 c.size_of.ensures d.listed p.1 d.cost_is;
     }
 
