@@ -9,7 +9,7 @@ ghost use Rattle.sender.specs.Delivering.{DeliveredFrom};
 
 use crate::placing::reach;
 use board::sites_of;
-use sender::Freight;
+use sender::Sending;
 
 // The cells of a subquery, two at a time. Those beyond its sites are the next row's, where a figure then stands until that row is stored.
 fn store(work: &mut [u64], row: &[u64; 8], at: usize, sites: usize)
@@ -27,20 +27,20 @@ fn store(work: &mut [u64], row: &[u64; 8], at: usize, sites: usize)
 // it once for all subqueries. Each row is stored where it is made, so that it is not moved before.
 pub(crate) fn deliver(
     work: &mut [u64],
-    freight: Freight<'_>,
+    sending: Sending<'_>,
     row: [u64; 8],
     at: usize,
     direct: bool,
 )
-    requires { ((1 ≤ sites_at freight.board.now) × (Marked row × (direct ≡ true → Direct freight.board.now (sites_at freight.board.now)))) × ((at ≤ most_cells) × (at + reach (sites_at freight.board.now) ≤ length work.old)) }
-    ensures { (r : List ℕ) × (DeliveredFrom freight.entry.board.now freight.entry.size.0 (λ (k : ℕ). get_or row k 0) r ×
-        Stored work.old work.new at (λ (t : ℕ). get_or r t 0) (reach (sites_at freight.entry.board.now))) }
+    requires { ((1 ≤ sites_at sending.board.now) × (Marked row × (direct ≡ true → Direct sending.board.now (sites_at sending.board.now)))) × ((at ≤ most_cells) × (at + reach (sites_at sending.board.now) ≤ length work.old)) }
+    ensures { (r : List ℕ) × (DeliveredFrom sending.entry.board.now sending.entry.size.0 (λ (k : ℕ). get_or row k 0) r ×
+        Stored work.old work.new at (λ (t : ℕ). get_or r t 0) (reach (sites_at sending.entry.board.now))) }
 {
     if direct {
-        let cells = freight.direct_row(row);
-        store(work, &cells, at, sites_of(freight.board));
+        let cells = sending.direct_row(row);
+        store(work, &cells, at, sites_of(sending.board));
         return;
     }
-    let cells = freight.routed_row(row);
-    store(work, &cells, at, sites_of(freight.board));
+    let cells = sending.routed_row(row);
+    store(work, &cells, at, sites_of(sending.board));
 }

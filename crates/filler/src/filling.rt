@@ -13,7 +13,7 @@ use crate::delivering::deliver;
 use crate::trials::Tables;
 use board::{BOARD, joins_of, sites_of};
 use relations::{SETS, whole};
-use sender::{Freight, is_direct};
+use sender::{Sending, is_direct};
 use subqueries::{is_connected, joins_in};
 
 // Fills the cells of one subquery from a place on, its joins given as bits: none for one relation. The places and the work area are written between two
@@ -41,8 +41,8 @@ fn fill_set(
     };
     let row = tables.start_row(set, joins);
     let size = tables.size_of(set);
-    let freight = Freight { board, size };
-    deliver(&mut *work, freight, row, at, direct);
+    let sending = Sending { board, size };
+    deliver(&mut *work, sending, row, at, direct);
 }
 
 // Fills the cells of every subquery but the whole query, notes where the first of each stands, and counts the joins in all of them.

@@ -8,7 +8,7 @@ ghost use Rattle.router.specs.Routing.{RoutesTo, stops_in, route_in, Carried};
 use crate::routing::{ROUTES, add_sends, next_site};
 use board::NONE;
 use rules::Step;
-use sender::Freight;
+use sender::Sending;
 
 // Writes a step.
 pub fn put(out: &mut [u8], at: usize, step: Step) -> usize
@@ -27,7 +27,7 @@ pub fn put(out: &mut [u8], at: usize, step: Step) -> usize
 
 // Writes i sends from k on to t, by the table of routes to t.
 fn put_sends(
-    freight: Freight<'_>,
+    sending: Sending<'_>,
     table: &[u64; ROUTES],
     out: &mut [u8],
     at: usize,
@@ -35,61 +35,61 @@ fn put_sends(
     k: usize,
     i: usize,
 ) -> usize
-    requires routes { RoutesTo freight.board.now freight.size.0 t i table.now × ((k < sites_at freight.board.now) × (i < sites_at freight.board.now)) }
-    requires room { at + length (step_bytes (send_steps (stops_in freight.board.now freight.size.0 t i k))) ≤ length out.old }
-    ensures { Wrote out.old at (step_bytes (send_steps (stops_in freight.entry.board.now freight.entry.size.0 t i k))) result out.new }
+    requires routes { RoutesTo sending.board.now sending.size.0 t i table.now × ((k < sites_at sending.board.now) × (i < sites_at sending.board.now)) }
+    requires room { at + length (step_bytes (send_steps (stops_in sending.board.now sending.size.0 t i k))) ≤ length out.old }
+    ensures { Wrote out.old at (step_bytes (send_steps (stops_in sending.entry.board.now sending.entry.size.0 t i k))) result out.new }
 {
     if i == 0 {
         return at;
     }
-    let next = next_site(freight, table, i - 1, k);
+    let next = next_site(sending, table, i - 1, k);
     let place = put(out, at, Step::Send(next.at));
-    put_sends(freight, table, out, place, t, next.at, i - 1)
+    put_sends(sending, table, out, place, t, next.at, i - 1)
 }
 
 // Writes the sends of the cheapest route from k to t, whose carriage is known: with one send more each turn until that is what they cost. There is such a
 // number of sends, so a `for` over all of them would end in a case that never comes.
 fn put_detour(
-    freight: Freight<'_>,
+    sending: Sending<'_>,
     out: &mut [u8],
     at: usize,
     k: usize,
     t: usize,
     carried: u64,
 ) -> usize
-    requires carried { ((k < sites_at freight.board.now) × (t < sites_at freight.board.now)) × Carried freight.board.now freight.size.0 k t carried }
-    requires room { at + length (step_bytes (send_steps (route_in freight.board.now freight.size.0 k t))) ≤ length out.old }
-    ensures { Wrote out.old at (step_bytes (send_steps (route_in freight.entry.board.now freight.entry.size.0 k t))) result out.new }
+    requires carried { ((k < sites_at sending.board.now) × (t < sites_at sending.board.now)) × Carried sending.board.now sending.size.0 k t carried }
+    requires room { at + length (step_bytes (send_steps (route_in sending.board.now sending.size.0 k t))) ≤ length out.old }
+    ensures { Wrote out.old at (step_bytes (send_steps (route_in sending.entry.board.now sending.entry.size.0 k t))) result out.new }
 {
     let mut table = [NONE; ROUTES];
     table[t] = 0;
     let mut i = 0;
     while table[8 * i + k] != carried {
-        add_sends(&mut table, freight, i);
+        add_sends(&mut table, sending, i);
         i += 1;
     }
-    put_sends(freight, &table, out, at, t, k, i)
+    put_sends(sending, &table, out, at, t, k, i)
 }
 
 // The same: nothing where it stays, one send where the line costs no more.
 pub fn put_route(
-    freight: Freight<'_>,
+    sending: Sending<'_>,
     out: &mut [u8],
     at: usize,
     k: usize,
     t: usize,
     carried: u64,
 ) -> usize
-    requires carried { ((k < sites_at freight.board.now) × (t < sites_at freight.board.now)) × Carried freight.board.now freight.size.0 k t carried }
-    requires room { at + length (step_bytes (send_steps (route_in freight.board.now freight.size.0 k t))) ≤ length out.old }
-    ensures { Wrote out.old at (step_bytes (send_steps (route_in freight.entry.board.now freight.entry.size.0 k t))) result out.new }
+    requires carried { ((k < sites_at sending.board.now) × (t < sites_at sending.board.now)) × Carried sending.board.now sending.size.0 k t carried }
+    requires room { at + length (step_bytes (send_steps (route_in sending.board.now sending.size.0 k t))) ≤ length out.old }
+    ensures { Wrote out.old at (step_bytes (send_steps (route_in sending.entry.board.now sending.entry.size.0 k t))) result out.new }
 {
     if k == t {
         return at;
     }
-    let sent = freight.line_at(k, t);
+    let sent = sending.line_at(k, t);
     if sent.0 == carried {
         return put(out, at, Step::Send(t));
     }
-    put_detour(freight, out, at, k, t, carried)
+    put_detour(sending, out, at, k, t, carried)
 }

@@ -5,10 +5,10 @@ ghost use Rattle.board.specs.Board.{sites_at};
 ghost use Rattle.sender.specs.Delivering.{DeliveredFrom};
 ghost use Rattle.sender.specs.Detours.{Direct};
 
-use crate::lines::Freight;
+use crate::lines::Sending;
 use board::sites_of;
 
-impl Freight<'_> {
+impl Sending<'_> {
     // Each site sends once what it started with, which is enough where no detour pays.
     pub fn direct_row(self, row: [u64; 8]) -> [u64; 8]
         requires { Marked row × Direct self.board.now (sites_at self.board.now) }

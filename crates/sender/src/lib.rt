@@ -9,4 +9,4 @@ mod lines;
 mod routed;
 
 pub use detours::is_direct;
-pub use lines::Freight;
+pub use lines::Sending;

@@ -12,13 +12,13 @@ use query::{Bytes, Charge};
 
 // A result of some size, and the board over whose lines it is sent.
 #[derive(Clone, Copy)]
-pub struct Freight<'a> {
+pub struct Sending<'a> {
     pub board: &'a [u64; BOARD],
     pub size: Bytes,
     pub ghost carriable: { Carriable board.now size.0 },
 }
 
-impl Freight<'_> {
+impl Sending<'_> {
     // What the line from site k to site t charges for it.
     pub fn line_at(self, k: usize, t: usize) -> Charge
         requires { (k < sites_at self.board.now) × (t < 8) }

@@ -4,7 +4,7 @@ ghost use Rattle.relations.specs.Sets.{bit};
 ghost use Rattle.board.specs.Figures.{Marked};
 ghost use Rattle.sender.specs.Delivering.{DeliveredFrom, Nearest};
 
-use crate::lines::Freight;
+use crate::lines::Sending;
 use board::sites_of;
 use relations::{bit, single, whole};
 
@@ -33,7 +33,7 @@ fn nearest(row: &[u64; 8], left: usize) -> usize
     at
 }
 
-impl Freight<'_> {
+impl Sending<'_> {
     // Delivered over routes: the nearest site that is left sends over its lines, until none is left. What comes later starts from no less, so it
     // undercuts no site that has sent.
     pub fn routed_row(self, row: [u64; 8]) -> [u64; 8]

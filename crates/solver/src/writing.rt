@@ -24,7 +24,7 @@ use filler::Tables;
 use relations::{bit, single, split, whole, within};
 use router::{put, put_route, site_for};
 use rules::Step;
-use sender::Freight;
+use sender::Sending;
 
 // Join e as a bit where it lies in the set, else nothing.
 fn bit_within(inside: bool, e: usize) -> usize
@@ -54,11 +54,11 @@ pub(crate) fn cheapest(tables: Tables<'_>, target: usize) -> u64
 {
     let every = whole(joins_of(tables.board) + 1);
     let row = tables.start_row(every, joins_within(tables.board, every));
-    let freight = Freight {
+    let sending = Sending {
         board: tables.board,
         size: tables.size_of(every),
     };
-    let cells = freight.routed_row(row);
+    let cells = sending.routed_row(row);
     cells[target]
 }
 
@@ -77,11 +77,11 @@ fn join_site(tables: Tables<'_>, due: Due) -> Choice
         × (result.figure ≡ carriage_in tables.entry.board.now (size_in (lent_of tables.entry) due.set) result.at due.site) }
 {
     let row = tables.joined_row(due.set, joins_within(tables.board, due.set));
-    let freight = Freight {
+    let sending = Sending {
         board: tables.board,
         size: tables.size_of(due.set),
     };
-    site_for(freight, &row, due.site, due.figure)
+    site_for(sending, &row, due.site, due.figure)
 }
 
 // The join that is taken last for a set at site k.
@@ -123,7 +123,7 @@ fn write_delivered(tables: Tables<'_>, out: &mut [u8], at: usize, due: Due) -> u
     ensures { (q : Query) → ToDeliver ◌+◌ q (lent_of tables.entry) due.set due.site due.figure →
         Wrote out.old at (step_bytes (written_delivered ◌+◌ q due.set due.site)) result out.new }
 {
-    let freight = Freight {
+    let sending = Sending {
         board: tables.board,
         size: tables.size_of(due.set),
     };
@@ -131,11 +131,11 @@ fn write_delivered(tables: Tables<'_>, out: &mut [u8], at: usize, due: Due) -> u
         let r = due.set.trailing_zeros() as usize;
         let home = homes_at(tables.board, r).trailing_zeros() as usize;
         let next = put(&mut *out, at, Step::Load(r));
-        return put_route(freight, &mut *out, next, home, due.site, due.figure);
+        return put_route(sending, &mut *out, next, home, due.site, due.figure);
     }
     let from = join_site(tables, due);
     let next = write_joined(tables, &mut *out, at, due.set, from.at);
-    put_route(freight, &mut *out, next, from.at, due.site, from.figure)
+    put_route(sending, &mut *out, next, from.at, due.site, from.figure)
 }
 
 // Writes the steps that join a set at k: the part with the join's first relation, the other part and the join.

@@ -7,7 +7,7 @@ use Rattle.router.proofs.choosing.site_for.Goals as goal
 pub once_sent-sent-requires : goal.once_sent-sent-requires
 once_sent-sent-requires c =
     let p = c.requires.least in
-    (first_listed _ _ _ _ _ p.0 p.1 _ c.in-Some.ensures.1, omega (arith, c.requires.marked.1, c.args.freight.carriable.few))
+    (first_listed _ _ _ _ _ p.0 p.1 _ c.in-Some.ensures.1, omega (arith, c.requires.marked.1, c.args.sending.carriable.few))
 
 pub returns-then-row-k : goal.returns-then-row-k
 returns-then-row-k c =
@@ -20,10 +20,10 @@ returns-then-row-k c =
     }
 
 pub offset_bounds-row-at : goal.offset_bounds-row-at
-offset_bounds-row-at c = let p = c.requires.least in record { fits = omega (arith, (site_chosen _ _ _ _ _ p.0 p.1 _ c.best_site-best.ensures.at_is).0, c.args.freight.carriable.few) }
+offset_bounds-row-at c = let p = c.requires.least in record { fits = omega (arith, (site_chosen _ _ _ _ _ p.0 p.1 _ c.best_site-best.ensures.at_is).0, c.args.sending.carriable.few) }
 
 pub bounds-row-at : goal.bounds-row-at
-bounds-row-at c = let p = c.requires.least in omega (arith, (site_chosen _ _ _ _ _ p.0 p.1 _ c.best_site-best.ensures.at_is).0, c.args.freight.carriable.few)
+bounds-row-at c = let p = c.requires.least in omega (arith, (site_chosen _ _ _ _ _ p.0 p.1 _ c.best_site-best.ensures.at_is).0, c.args.sending.carriable.few)
 
 pub overflow_sub-result : goal.overflow_sub-result
 overflow_sub-result c = let p = c.requires.least in (site_chosen _ _ _ _ _ p.0 p.1 _ c.best_site-best.ensures.at_is).1

@@ -15,7 +15,7 @@ put-place-requires t c =
     let some = c.if-i-eq0.false in
     let next = c.next_site-next.ensures in (
       first_room _ _ _ _ _ _ _ _ c.args.out.now p.0 some p.1.1 _ next refl room,
-      omega (arith, next_listed _ _ _ _ _ _ _ _ c.args.out.now p.0 some p.1.1 _ next refl room, c.args.freight.carriable.few),
+      omega (arith, next_listed _ _ _ _ _ _ _ _ c.args.out.now p.0 some p.1.1 _ next refl room, c.args.sending.carriable.few),
     )
 
 pub put_sends-requires : goal.put_sends-requires

@@ -4,25 +4,25 @@ use Rattle.router.proofs.FewestSends.{searching_none, searching_more, searched}
 use Rattle.router.proofs.sends.put_detour.Goals as goal
 
 pub loop-table-init : goal.loop-table-init
-loop-table-init c = let p = c.requires.carried in searching_none _ _ _ _ p.0.1 c.args.freight.carriable.few
+loop-table-init c = let p = c.requires.carried in searching_none _ _ _ _ p.0.1 c.args.sending.carriable.few
 
 pub add_sends-requires : goal.add_sends-requires
 add_sends-requires c =
     let p = c.requires.carried in
-    let more = searching_more _ _ _ _ _ _ _ c.args.freight.carriable.few p.0.0 p.1 c.loop-table.invariant c.loop-table-test.true in
-    (omega (arith, more.0, c.args.freight.carriable.few), c.loop-table.invariant.rows.figured)
+    let more = searching_more _ _ _ _ _ _ _ c.args.sending.carriable.few p.0.0 p.1 c.loop-table.invariant c.loop-table-test.true in
+    (omega (arith, more.0, c.args.sending.carriable.few), c.loop-table.invariant.rows.figured)
 
 pub loop-table-preserved : goal.loop-table-preserved
 loop-table-preserved c =
     let p = c.requires.carried in
-    (searching_more _ _ _ _ _ _ _ c.args.freight.carriable.few p.0.0 p.1 c.loop-table.invariant c.loop-table-test.true).1 _ c.add_sends.ensures
+    (searching_more _ _ _ _ _ _ _ c.args.sending.carriable.few p.0.0 p.1 c.loop-table.invariant c.loop-table-test.true).1 _ c.add_sends.ensures
 
 pub returns : goal.returns
 returns c =
     let p = c.requires.carried in
-    rw (searched _ _ _ _ _ _ _ c.args.freight.carriable.few p.0.0 p.1 c.loop-table.invariant c.loop-table-test.false) c.put_sends.ensures
+    rw (searched _ _ _ _ _ _ _ c.args.sending.carriable.few p.0.0 p.1 c.loop-table.invariant c.loop-table-test.false) c.put_sends.ensures
 
 pub put_sends-requires-clause-room : goal.put_sends-requires-clause-room
 put_sends-requires-clause-room c =
     let p = c.requires.carried in
-    rw (← searched _ _ _ _ _ _ _ c.args.freight.carriable.few p.0.0 p.1 c.loop-table.invariant c.loop-table-test.false) c.requires.room
+    rw (← searched _ _ _ _ _ _ _ c.args.sending.carriable.few p.0.0 p.1 c.loop-table.invariant c.loop-table-test.false) c.requires.room

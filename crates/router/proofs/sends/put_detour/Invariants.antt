@@ -5,7 +5,7 @@ use Rattle.router.proofs.FewestSends.{Searching}
 use Rattle.router.proofs.sends.put_detour.Given as goal
 
 abbrev pub invariant-loop-table : goal.invariant-loop-table
-invariant-loop-table l = Searching l.freight.board.now l.freight.size.0 l.t l.k l.i l.table
+invariant-loop-table l = Searching l.sending.board.now l.sending.size.0 l.t l.k l.i l.table
 
 abbrev pub decreases-loop-table : goal.decreases-loop-table
-decreases-loop-table l = sites_at l.freight.board.now - l.i
+decreases-loop-table l = sites_at l.sending.board.now - l.i

@@ -13,7 +13,7 @@ pub put-requires : goal.put-requires
 put-requires c =
     let p = c.requires.carried in
     let bytes = direct_bytes _ _ _ _ _ _ p.0.0 p.0.1 c.if-k-t.false c.line_at-sent.ensures.0 c.if-sent-carried.true p.1 in
-    (omega (arith, c.requires.room, ap length bytes), omega (arith, p.0.1, c.args.freight.carriable.few))
+    (omega (arith, c.requires.room, ap length bytes), omega (arith, p.0.1, c.args.sending.carriable.few))
 
 pub returns-then-sent-carried : goal.returns-then-sent-carried
 returns-then-sent-carried c =

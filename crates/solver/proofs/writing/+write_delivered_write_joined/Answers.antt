@@ -13,11 +13,11 @@ write_delivered-put-next-requires t c = (search (rules, load_room, plus_combines
 pub write_delivered-size_of-requires : goal.write_delivered-size_of-requires
 write_delivered-size_of-requires t c = let p = c.requires in set_low _ plus_combines _ _ _ _ p.0 p.1.0
 
-pub write_delivered-invariant_of-freight : goal.write_delivered-invariant_of-freight
-write_delivered-invariant_of-freight t c = let p = c.requires in record { carriable = set_carriable _ plus_combines _ _ _ _ _ c.size_of.ensures p.0 p.1.0 }
+pub write_delivered-invariant_of-sending : goal.write_delivered-invariant_of-sending
+write_delivered-invariant_of-sending t c = let p = c.requires in record { carriable = set_carriable _ plus_combines _ _ _ _ _ c.size_of.ensures p.0 p.1.0 }
 
-pub write_delivered-invariant_of-freight-2 : goal.write_delivered-invariant_of-freight-2
-write_delivered-invariant_of-freight-2 t c = let p = c.requires in record { carriable = set_carriable _ plus_combines _ _ _ _ _ c.size_of.ensures p.0 p.1.0 }
+pub write_delivered-invariant_of-sending-2 : goal.write_delivered-invariant_of-sending-2
+write_delivered-invariant_of-sending-2 t c = let p = c.requires in record { carriable = set_carriable _ plus_combines _ _ _ _ _ c.size_of.ensures p.0 p.1.0 }
 
 pub write_delivered-put_route-requires : goal.write_delivered-put_route-requires
 write_delivered-put_route-requires t c =

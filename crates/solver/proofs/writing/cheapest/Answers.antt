@@ -29,8 +29,8 @@ start_row-row-requires c = startable ◌+◌ plus_combines _ _ _ (here _ _ _ _ c
 pub size_of-requires : goal.size_of-requires
 size_of-requires c = known_low ◌+◌ plus_combines _ _ _ (here _ _ _ _ c.args.target _ _ c.joins_of.ensures c.whole-every.ensures c.requires).0
 
-pub invariant_of-freight : goal.invariant_of-freight
-invariant_of-freight c = record { carriable = carriable ◌+◌ plus_combines _ _ _ (here _ _ _ _ c.args.target _ _ c.joins_of.ensures c.whole-every.ensures c.requires).0 _ c.size_of.ensures }
+pub invariant_of-sending : goal.invariant_of-sending
+invariant_of-sending c = record { carriable = carriable ◌+◌ plus_combines _ _ _ (here _ _ _ _ c.args.target _ _ c.joins_of.ensures c.whole-every.ensures c.requires).0 _ c.size_of.ensures }
 
 pub returns : goal.returns
 returns c =

@@ -12,8 +12,8 @@ joined_row-row-requires c = joinable _ plus_combines _ _ _ c.requires.1.0.known 
 pub size_of-requires : goal.size_of-requires
 size_of-requires c = known_low _ plus_combines _ _ _ c.requires.1.0.known
 
-pub invariant_of-freight : goal.invariant_of-freight
-invariant_of-freight c = record { carriable = carriable _ plus_combines _ _ _ c.requires.1.0.known _ c.size_of.ensures }
+pub invariant_of-sending : goal.invariant_of-sending
+invariant_of-sending c = record { carriable = carriable _ plus_combines _ _ _ c.requires.1.0.known _ c.size_of.ensures }
 
 pub site_for-requires : goal.site_for-requires
 site_for-requires c =

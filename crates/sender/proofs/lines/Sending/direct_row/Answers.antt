@@ -1,7 +1,7 @@
 -- Each turn one site more sends what it started with.
 use native.Mathlib.Omega.{arith}
 use Rattle.sender.proofs.Directed.{directing_more, directed}
-use Rattle.sender.proofs.lines.Freight.direct_row.Goals as goal
+use Rattle.sender.proofs.lines.Sending.direct_row.Goals as goal
 
 pub loop-k-preserved : goal.loop-k-preserved
 loop-k-preserved c =

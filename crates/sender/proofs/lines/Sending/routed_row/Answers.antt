@@ -2,7 +2,7 @@
 use mathlib.Core.Path.{ap, ◌∙◌}
 use Rattle.relations.specs.Sets.{all}
 use Rattle.sender.proofs.Settled.{settling_none, settling_more, settled, less_left}
-use Rattle.sender.proofs.lines.Freight.routed_row.Goals as goal
+use Rattle.sender.proofs.lines.Sending.routed_row.Goals as goal
 
 pub loop-left-init : goal.loop-left-init
 loop-left-init c = settling_none _ _ _ _ c.requires c.args.self.carriable.few (c.whole-left.ensures ∙ ap all c.sites_of.ensures)

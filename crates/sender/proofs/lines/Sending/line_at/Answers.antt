@@ -1,7 +1,7 @@
--- `lines::Freight::line_at` meets its contract: the line's row and lane lie on the board, and the price is the definition. Assumes nothing.
+-- `lines::Sending::line_at` meets its contract: the line's row and lane lie on the board, and the price is the definition. Assumes nothing.
 use native.Mathlib.Omega.{arith}
 use Rattle.sender.proofs.LinePrices.{line_asks, line_is}
-use Rattle.sender.proofs.lines.Freight.line_at.Goals as goal
+use Rattle.sender.proofs.lines.Sending.line_at.Goals as goal
 
 pub returns : goal.returns
 returns c =
