@@ -12,9 +12,9 @@ use relations::{Parts, split};
 
 impl Tables<'_> {
     // The row with the trials of one split where they are less.
-    fn try_lanes<const LANES: usize>(self, row: &mut [u64; 8], parts: Parts, spared: usize)
-        requires { (Marked row.old × (LANES ≤ 8)) × ((k : ℕ) → k < LANES → Triable (lent_of self) parts.first parts.second spared k) }
-        ensures { TriedFrom row.old row.new (trial_of ◌+◌ (lent_of self.entry) parts.first parts.second spared) 0 LANES }
+    fn try_lanes<const LANES: usize>(&self, row: &mut [u64; 8], parts: Parts, spared: usize)
+        requires { (Marked row.old × (LANES ≤ 8)) × ((k : ℕ) → k < LANES → Triable (lent_of self.now) parts.first parts.second spared k) }
+        ensures { TriedFrom row.old row.new (trial_of ◌+◌ (lent_of self.now) parts.first parts.second spared) 0 LANES }
     {
         for k in 0..LANES {
             row[k] = lesser(self.trial(parts, spared, k), row[k]);
@@ -22,9 +22,9 @@ impl Tables<'_> {
     }
 
     // The row of a set over its joins, which are given as bits: the least trial at each site.
-    pub(crate) fn joined_lanes<const LANES: usize>(self, set: usize, joins: usize) -> [u64; 8]
-        requires { Joinable (lent_of self) joins set × (LANES ≡ reach (sites_at self.board.now)) }
-        ensures { AtSites (sites_at self.entry.board.now) result (joined_in ◌+◌ (lent_of self.entry) joins set) × Marked result }
+    pub(crate) fn joined_lanes<const LANES: usize>(&self, set: usize, joins: usize) -> [u64; 8]
+        requires { Joinable (lent_of self.now) joins set × (LANES ≡ reach (sites_at self.now.board.now)) }
+        ensures { AtSites (sites_at self.now.board.now) result (joined_in ◌+◌ (lent_of self.now) joins set) × Marked result }
     {
         let mut row = [NONE; 8];
         let mut left = joins;

@@ -7,9 +7,9 @@ use crate::trials::Tables;
 
 impl Tables<'_> {
     // The place of a subquery's cell at a site, by the places of the first cells.
-    pub fn place(self, set: usize, site: usize) -> usize
+    pub fn place(&self, set: usize, site: usize) -> usize
         requires { (set < most_sets) × (site < 8) }
-        ensures { result ≡ place_in self.entry.places.now set site }
+        ensures { result ≡ place_in self.now.places.now set site }
     {
         self.places[set] as usize + site
     }

@@ -28,9 +28,9 @@ fn bare_row(homes: usize) -> [u64; 8]
 impl Tables<'_> {
     // The row of a set over its joins, which are given as bits: the least trial at each site. The number of sites is asked for here and not at each join,
     // so that the row stays in registers.
-    pub fn joined_row(self, set: usize, joins: usize) -> [u64; 8]
-        requires { Joinable (lent_of self) joins set }
-        ensures { AtSites (sites_at self.entry.board.now) result (joined_in ◌+◌ (lent_of self.entry) joins set) × Marked result }
+    pub fn joined_row(&self, set: usize, joins: usize) -> [u64; 8]
+        requires { Joinable (lent_of self.now) joins set }
+        ensures { AtSites (sites_at self.now.board.now) result (joined_in ◌+◌ (lent_of self.now) joins set) × Marked result }
     {
         match reach(sites_of(self.board)) {
             2 => self.joined_lanes::<2>(set, joins),
@@ -40,9 +40,9 @@ impl Tables<'_> {
     }
 
     // What a subquery has cost at each site where it can start from, its joins given as bits: none for one relation.
-    pub fn start_row(self, set: usize, joins: usize) -> [u64; 8]
-        requires { Startable (lent_of self) joins set }
-        ensures { AtSites (sites_at self.entry.board.now) result (start_in ◌+◌ (lent_of self.entry) joins set) × Marked result }
+    pub fn start_row(&self, set: usize, joins: usize) -> [u64; 8]
+        requires { Startable (lent_of self.now) joins set }
+        ensures { AtSites (sites_at self.now.board.now) result (start_in ◌+◌ (lent_of self.now) joins set) × Marked result }
     {
         if joins == 0 {
             let r = set.trailing_zeros() as usize;

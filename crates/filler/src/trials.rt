@@ -21,17 +21,17 @@ pub struct Tables<'a> {
 
 impl Tables<'_> {
     // The size of a set.
-    pub fn size_of(self, set: usize) -> Bytes
+    pub fn size_of(&self, set: usize) -> Bytes
         requires { set < most_sets }
-        ensures { result.0 ≡ size_in (lent_of self.entry) set }
+        ensures { result.0 ≡ size_in (lent_of self.now) set }
     {
         Bytes(u64::from(self.sizes[set]))
     }
 
     // The price of joining two parts at site k, by the row with what is spared of them.
-    fn price_at(self, parts: Parts, spared: usize, k: usize) -> Charge
-        requires { Priced self.board.now self.sizes.now parts.first parts.second spared k }
-        ensures { (result.0 ≡ price_in self.entry.board.now self.entry.sizes.now parts.first parts.second spared k) × (result.0 ≤ none_mark + 3000000000000) }
+    fn price_at(&self, parts: Parts, spared: usize, k: usize) -> Charge
+        requires { Priced self.now.board.now self.now.sizes.now parts.first parts.second spared k }
+        ensures { (result.0 ≡ price_in self.now.board.now self.now.sizes.now parts.first parts.second spared k) × (result.0 ≤ none_mark + 3000000000000) }
     {
         let one = self.size_of(parts.first);
         let other = self.size_of(parts.second);
@@ -46,9 +46,9 @@ impl Tables<'_> {
     }
 
     // The trial of joining two parts at site k.
-    pub fn trial(self, parts: Parts, spared: usize, k: usize) -> u64
-        requires { Triable (lent_of self) parts.first parts.second spared k }
-        ensures { (result ≡ trial_of ◌+◌ (lent_of self.entry) parts.first parts.second spared k) × (result < 2 ^ 62) }
+    pub fn trial(&self, parts: Parts, spared: usize, k: usize) -> u64
+        requires { Triable (lent_of self.now) parts.first parts.second spared k }
+        ensures { (result ≡ trial_of ◌+◌ (lent_of self.now) parts.first parts.second spared k) × (result < 2 ^ 62) }
     {
         let price = self.price_at(parts, spared, k);
         let a = self.place(parts.first, k);

@@ -49,9 +49,9 @@ pub fn solve(q: &Query, work: &mut [u64], plan: &mut [u8]) -> Solution
         places: &places,
         work: &*work,
     };
-    let figure = cheapest(tables, q.target);
+    let figure = cheapest(&tables, q.target);
     if figure < NONE {
-        let length = write_plan(tables, &mut *plan, q.target, figure);
+        let length = write_plan(&tables, &mut *plan, q.target, figure);
         return Solution::Found {
             cost: Charge(figure),
             length,

@@ -47,10 +47,10 @@ fn joins_within(board: &[u64; BOARD], set: usize) -> usize
 }
 
 // What the whole query costs at the query site, as a figure. Its cells are nobody's part, so that they are not kept.
-pub(crate) fn cheapest(tables: Tables<'_>, target: usize) -> u64
-    requires { (q : Query) × ((LaidOut q (lent_of tables) × Filled ◌+◌ q tables.places.now tables.work.now (all (relations_of q))) × (q.target ≡ target)) }
-    ensures { (q : Query) → LaidOut q (lent_of tables.entry) →
-        Filled ◌+◌ q tables.entry.places.now tables.entry.work.now (all (relations_of q)) → q.target ≡ target → result ≡ mark (cheapest ◌+◌ q) }
+pub(crate) fn cheapest(tables: &Tables<'_>, target: usize) -> u64
+    requires { (q : Query) × ((LaidOut q (lent_of tables.now) × Filled ◌+◌ q tables.now.places.now tables.now.work.now (all (relations_of q))) × (q.target ≡ target)) }
+    ensures { (q : Query) → LaidOut q (lent_of tables.now) →
+        Filled ◌+◌ q tables.now.places.now tables.now.work.now (all (relations_of q)) → q.target ≡ target → result ≡ mark (cheapest ◌+◌ q) }
 {
     let every = whole(joins_of(tables.board) + 1);
     let row = tables.start_row(every, joins_within(tables.board, every));
@@ -71,10 +71,10 @@ pub struct Due {
 }
 
 // The site where a set is joined for its delivery, and the carriage from there.
-fn join_site(tables: Tables<'_>, due: Due) -> Choice
-    requires { (q : Query) × (ToDeliver ◌+◌ q (lent_of tables) due.set due.site due.figure × (ones due.set ≡ 1 → ⊥)) }
-    ensures { (result.at ≡ site_by ◌+◌ (lent_of tables.entry) due.set due.site)
-        × (result.figure ≡ carriage_in tables.entry.board.now (size_in (lent_of tables.entry) due.set) result.at due.site) }
+fn join_site(tables: &Tables<'_>, due: Due) -> Choice
+    requires { (q : Query) × (ToDeliver ◌+◌ q (lent_of tables.now) due.set due.site due.figure × (ones due.set ≡ 1 → ⊥)) }
+    ensures { (result.at ≡ site_by ◌+◌ (lent_of tables.now) due.set due.site)
+        × (result.figure ≡ carriage_in tables.now.board.now (size_in (lent_of tables.now) due.set) result.at due.site) }
 {
     let row = tables.joined_row(due.set, joins_within(tables.board, due.set));
     let sending = Sending {
@@ -85,9 +85,9 @@ fn join_site(tables: Tables<'_>, due: Due) -> Choice
 }
 
 // The join that is taken last for a set at site k.
-fn last_join(tables: Tables<'_>, set: usize, k: usize) -> usize
-    requires { (q : Query) × (ToJoin ◌+◌ q (lent_of tables) set k) }
-    ensures { result ≡ join_by ◌+◌ (lent_of tables.entry) set k }
+fn last_join(tables: &Tables<'_>, set: usize, k: usize) -> usize
+    requires { (q : Query) × (ToJoin ◌+◌ q (lent_of tables.now) set k) }
+    ensures { result ≡ join_by ◌+◌ (lent_of tables.now) set k }
 {
     let joins = joins_within(tables.board, set);
     let mut best = Choice {
@@ -104,9 +104,9 @@ fn last_join(tables: Tables<'_>, set: usize, k: usize) -> usize
 }
 
 // A set at a site, by its cell.
-fn due_at(tables: Tables<'_>, set: usize, k: usize) -> Due
-    requires { ((set < most_sets) × (k < 8)) × (place_in tables.places.now set k < length tables.work.now) }
-    ensures { result ≡ due_of set k (cell_in (lent_of tables.entry) set k) }
+fn due_at(tables: &Tables<'_>, set: usize, k: usize) -> Due
+    requires { ((set < most_sets) × (k < 8)) × (place_in tables.now.places.now set k < length tables.now.work.now) }
+    ensures { result ≡ due_of set k (cell_in (lent_of tables.now) set k) }
 {
     let at = tables.place(set, k);
     Due {
@@ -118,9 +118,9 @@ fn due_at(tables: Tables<'_>, set: usize, k: usize) -> Due
 
 // Writes the steps that deliver a set at a site: the load for one relation, else those of its join; then the sends that are due.
 #[cycle(write_delivered_write_joined)]
-fn write_delivered(tables: Tables<'_>, out: &mut [u8], at: usize, due: Due) -> usize
-    requires { (q : Query) × (ToDeliver ◌+◌ q (lent_of tables) due.set due.site due.figure × (at + length (step_bytes (written_delivered ◌+◌ q due.set due.site)) ≤ length out.old)) }
-    ensures { (q : Query) → ToDeliver ◌+◌ q (lent_of tables.entry) due.set due.site due.figure →
+fn write_delivered(tables: &Tables<'_>, out: &mut [u8], at: usize, due: Due) -> usize
+    requires { (q : Query) × (ToDeliver ◌+◌ q (lent_of tables.now) due.set due.site due.figure × (at + length (step_bytes (written_delivered ◌+◌ q due.set due.site)) ≤ length out.old)) }
+    ensures { (q : Query) → ToDeliver ◌+◌ q (lent_of tables.now) due.set due.site due.figure →
         Wrote out.old at (step_bytes (written_delivered ◌+◌ q due.set due.site)) result out.new }
 {
     let sending = Sending {
@@ -140,9 +140,9 @@ fn write_delivered(tables: Tables<'_>, out: &mut [u8], at: usize, due: Due) -> u
 
 // Writes the steps that join a set at k: the part with the join's first relation, the other part and the join.
 #[cycle(write_delivered_write_joined)]
-fn write_joined(tables: Tables<'_>, out: &mut [u8], at: usize, set: usize, k: usize) -> usize
-    requires { (q : Query) × (ToJoin ◌+◌ q (lent_of tables) set k × (at + length (step_bytes (written_joined ◌+◌ q set k)) ≤ length out.old)) }
-    ensures { (q : Query) → ToJoin ◌+◌ q (lent_of tables.entry) set k →
+fn write_joined(tables: &Tables<'_>, out: &mut [u8], at: usize, set: usize, k: usize) -> usize
+    requires { (q : Query) × (ToJoin ◌+◌ q (lent_of tables.now) set k × (at + length (step_bytes (written_joined ◌+◌ q set k)) ≤ length out.old)) }
+    ensures { (q : Query) → ToJoin ◌+◌ q (lent_of tables.now) set k →
         Wrote out.old at (step_bytes (written_joined ◌+◌ q set k)) result out.new }
 {
     let e = last_join(tables, set, k);
@@ -155,14 +155,9 @@ fn write_joined(tables: Tables<'_>, out: &mut [u8], at: usize, set: usize, k: us
 }
 
 // Writes the plan: its count of steps, then the steps.
-pub(crate) fn write_plan<'a>(
-    tables: Tables<'a>,
-    out: &mut [u8],
-    target: usize,
-    figure: u64,
-) -> usize
-    requires { (q : Query) × ((LaidOut q (lent_of tables) × Filled ◌+◌ q tables.places.now tables.work.now (all (relations_of q))) × ((q.target ≡ target) × ((cheapest ◌+◌ q ≡ some figure) × (longest_plan ≤ length out.old)))) }
-    ensures { (q : Query) → LaidOut q (lent_of tables.entry) → Filled ◌+◌ q tables.entry.places.now tables.entry.work.now (all (relations_of q)) → q.target ≡ target →
+pub(crate) fn write_plan(tables: &Tables<'_>, out: &mut [u8], target: usize, figure: u64) -> usize
+    requires { (q : Query) × ((LaidOut q (lent_of tables.now) × Filled ◌+◌ q tables.now.places.now tables.now.work.now (all (relations_of q))) × ((q.target ≡ target) × ((cheapest ◌+◌ q ≡ some figure) × (longest_plan ≤ length out.old)))) }
+    ensures { (q : Query) → LaidOut q (lent_of tables.now) → Filled ◌+◌ q tables.now.places.now tables.now.work.now (all (relations_of q)) → q.target ≡ target →
         cheapest ◌+◌ q ≡ some figure →
         (result ≡ length (written ◌+◌ q)) × (out.new ≡ written ◌+◌ q ++ drop (length (written ◌+◌ q)) out.old) }
 {

@@ -20,7 +20,7 @@ spared_row-requires g c = next_parts _ _ _ _ _ _ c.loop-left.invariant c.loop-le
 pub try_lanes-requires : goal.try_lanes-requires
 try_lanes-requires g c =
     let p = c.requires in (
-      (c.loop-left.invariant.marked, omega (arith, p.1, reach_eight (sites_at c.args.self.board.now))),
+      (c.loop-left.invariant.marked, omega (arith, p.1, reach_eight (sites_at c.args.self.now.board.now))),
       λ k low. next_asks _ _ _ _ _ _ c.loop-left.invariant c.loop-left-test.true p.0 _ _ (c.split-parts.ensures ∙ ap (parts_by _) c.side_at.ensures) c.spared_row.ensures.0 k (omega (arith, p.1)),
     )
 
