@@ -25,7 +25,7 @@ extern "C" {
 /* The stack that the call needs, in bytes, its work area of 17 KB among them. Measured, not proved: tests/c/stack.c measures
  * it and holds this figure to it from both sides. A program that binds memcpy and memset at their first call (linked without
  * -z now) needs some kilobytes more that once, for the dynamic linker. */
-#define FANCHUKI_STACK 57344
+#define FANCHUKI_STACK 49152
 
 /* A plan is its number of steps, one byte, then two bytes a step: the kind and its argument. */
 enum fanchuki_kind {
