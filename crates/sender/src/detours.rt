@@ -14,40 +14,52 @@ const ENOUGH: u64 = 4 * NONE;
 // More than any rate: what a way has in its rates for each closed line on it.
 const DEAR: u64 = 1024;
 
-// The fixed amounts of the lines of a, and nothing to itself.
-fn other_lines(board: &[u64; BOARD], a: usize) -> [u64; 8]
-    requires { Carriable board.now 0 × (a < sites_at board.now) }
-    ensures { OtherLines board.now a result }
-{
-    let mut row = array::from_fn(|t| board[8 * (LINE_FIXED + a) + t]);
-    row[a] = 0;
-    row
+// Where ways of two lines begin: a site, and the fixed amounts of its lines, nothing to itself.
+#[derive(Drop)]
+struct Ways<'a> {
+    board: &'a [u64; BOARD],
+    a: usize,
+    lines: [u64; 8],
+    ghost carriable: { Carriable board.now 0 },
+    ghost listed: { a < sites_at board.now },
+    ghost others: { OtherLines board.now a lines },
 }
 
-// Enough where the way from a over m to t has no lower fixed amount and no lower rate than the line, or is closed.
-fn spare_at(board: &[u64; BOARD], lines: &[u64; 8], a: usize, m: usize, t: usize) -> u64
-    requires { (Carriable board.now 0 × OtherLines board.now a lines.now) × ((a < sites_at board.now) × ((m < sites_at board.now) × (t < 8))) }
-    ensures { enough ≤ result → DirectAt board.now a m t }
-{
-    let to = board[8 * (LINE_FIXED + a) + m];
-    let on = board[8 * (LINE_FIXED + m) + t];
-    let rates = board[8 * (LINE_RATE + a) + m] + board[8 * (LINE_RATE + m) + t];
-    let closed = (to / NONE + on / NONE) * DEAR;
-    let fixed = (ENOUGH + to + on) - lines[t];
-    let rate = (ENOUGH + rates + closed) - board[8 * (LINE_RATE + a) + t];
-    fixed & rate
-}
-
-// Enough where that holds of all ways from a over m.
-fn spare_over(board: &[u64; BOARD], lines: &[u64; 8], a: usize, m: usize) -> u64
-    requires { (Carriable board.now 0 × OtherLines board.now a lines.now) × ((a < sites_at board.now) × (m < sites_at board.now)) }
-    ensures { enough ≤ result → DirectOver board.now a m 8 }
-{
-    let mut spare = ENOUGH;
-    for t in 0..8 {
-        spare &= spare_at(board, lines, a, m, t);
+impl<'a> Ways<'a> {
+    fn new(board: &'a [u64; BOARD], a: usize) -> Self
+        requires { Carriable board.now 0 × (a < sites_at board.now) }
+        ensures { (result.board.now ≡ board.entry.now) × (result.a ≡ a) }
+    {
+        let mut lines = array::from_fn(|t| board[8 * (LINE_FIXED + a) + t]);
+        lines[a] = 0;
+        Ways { board, a, lines }
     }
-    spare
+
+    // Enough where the way over m to t has no lower fixed amount and no lower rate than the line, or is closed.
+    fn spare_at(&self, m: usize, t: usize) -> u64
+        requires { (m < sites_at self.now.board.now) × (t < 8) }
+        ensures { enough ≤ result → DirectAt self.now.board.now self.now.a m t }
+    {
+        let to = self.board[8 * (LINE_FIXED + self.a) + m];
+        let on = self.board[8 * (LINE_FIXED + m) + t];
+        let rates = self.board[8 * (LINE_RATE + self.a) + m] + self.board[8 * (LINE_RATE + m) + t];
+        let closed = (to / NONE + on / NONE) * DEAR;
+        let fixed = (ENOUGH + to + on) - self.lines[t];
+        let rate = (ENOUGH + rates + closed) - self.board[8 * (LINE_RATE + self.a) + t];
+        fixed & rate
+    }
+
+    // Enough where that holds of all ways over m.
+    fn spare_over(&self, m: usize) -> u64
+        requires { m < sites_at self.now.board.now }
+        ensures { enough ≤ result → DirectOver self.now.board.now self.now.a m 8 }
+    {
+        let mut spare = ENOUGH;
+        for t in 0..8 {
+            spare &= self.spare_at(m, t);
+        }
+        spare
+    }
 }
 
 // Whether no way from a can pay.
@@ -55,8 +67,8 @@ fn direct_from(board: &[u64; BOARD], a: usize) -> bool
     requires { Carriable board.now 0 × (a < sites_at board.now) }
     ensures { result ≡ true → DirectFrom board.now a (sites_at board.now) }
 {
-    let lines = other_lines(board, a);
-    (0..sites_of(board)).all(|m| spare_over(board, &lines, a, m) >= ENOUGH)
+    let ways = Ways::new(board, a);
+    (0..sites_of(board)).all(|m| ways.spare_over(m) >= ENOUGH)
 }
 
 // Whether no detour can. Two sites have none. What holds for all sizes is asked of the board alone.
