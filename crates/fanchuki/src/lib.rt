@@ -33,7 +33,8 @@ fn solved(p: Planner, cells: &mut [u64], output: &mut [u8]) -> u64
     }
 }
 
-// Loads and solves, in that order, on a planner and over cells of its own.
+// Loads and solves, in that order, on a planner and over cells of its own. Its two solves differ in a size: a const parameter for it would have to ask
+// for a bound that no array asks for.
 #[unsafe(no_mangle)]
 #[tactic(auto, using(planner::proofs::Cells::needed_enough), unfolding(crate::specs::Served::serve))]
 pub extern "C" fn fanchuki_plan(query: &[u8], output: &mut [u8]) -> u64

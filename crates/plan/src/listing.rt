@@ -34,7 +34,7 @@ impl fmt::Display for Step {
     }
 }
 
-// So many steps of a plan.
+// So many steps of a plan: the output says with its first byte how many it has (rule 10.2), and where they end nothing else does.
 #[derive(Clone, Copy)]
 struct Steps<'a> {
     count: u8,

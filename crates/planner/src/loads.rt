@@ -1,4 +1,5 @@
 // The two loads: the ordinary one, and the one from row counts. The state goes in by value and comes back, as it was where the file is refused.
+// They are two calls of the rules, over one function that takes the form.
 ghost use Rattle.std.specs.Prelude.{◌≡◌};
 ghost use Rattle.planner.specs.Load.{load_by, load, load_rows};
 ghost use Rattle.planner.specs.Code.{state_of, done_of, of_load};

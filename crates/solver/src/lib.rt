@@ -19,6 +19,7 @@ use relations::SETS;
 use subqueries::join_table;
 
 // What solving a query gives: the cost of the cheapest plan, how many bytes it has and the trials; or none, with the trials.
+// Both cases have the trials, so it is no Option.
 #[derive(Clone, Copy)]
 pub enum Solution {
     Found {

@@ -72,7 +72,7 @@ pub extern "C" fn fanchuki_loads(query: &[u8], times: u64) -> u64
     loads(Form::Sizes, query, times)
 }
 
-// The same from row counts.
+// The same from row counts: two names of C, over one function.
 #[unsafe(no_mangle)]
 pub extern "C" fn fanchuki_row_loads(query: &[u8], times: u64) -> u64
     ensures { result ≡ plan_after load_rows query.now times }
