@@ -10,7 +10,8 @@ use board::NONE;
 use rules::Step;
 use sender::Sending;
 
-// Where a plan is written: its bytes, and the place behind what is written.
+// Where a plan is written: its bytes, and the place behind what is written. Each method says that `bytes` is the same reference: only so does who lent
+// the bytes learn what was written.
 #[derive(Drop)]
 pub struct Writer<'a> {
     pub bytes: &'a mut [u8],
@@ -35,7 +36,14 @@ impl Writer<'_> {
     }
 
     // Writes i sends from k on to t, by the table of routes to t.
-    fn put_sends(&mut self, sending: Sending<'_>, table: &[u64; ROUTES], t: usize, k: usize, i: usize)
+    fn put_sends(
+        &mut self,
+        sending: Sending<'_>,
+        table: &[u64; ROUTES],
+        t: usize,
+        k: usize,
+        i: usize,
+    )
         requires routes { RoutesTo sending.board.now sending.size.0 t i table.now × ((k < sites_at sending.board.now) × (i < sites_at sending.board.now)) }
         requires room { self.old.at + length (step_bytes (send_steps (stops_in sending.board.now sending.size.0 t i k))) ≤ length self.old.bytes.now }
         ensures same { self.new.bytes.ghost_name ≡ self.old.bytes.ghost_name }

@@ -169,10 +169,7 @@ pub(crate) fn write_plan(tables: &Tables<'_>, out: &mut [u8], target: usize, fig
         site: target,
         figure,
     };
-    let mut plan = Writer {
-        bytes: &mut *out,
-        at: 1,
-    };
+    let mut plan = Writer { bytes: out, at: 1 };
     write_delivered(tables, &mut plan, due);
     let end = plan.at;
     out[0] = ((end - 1) / 2) as u8;
