@@ -7,4 +7,4 @@ mod routing;
 mod sends;
 
 pub use choosing::site_for;
-pub use sends::{put, put_route};
+pub use sends::Writer;

@@ -22,7 +22,7 @@ ghost use Rattle.router.specs.Wrote.{Wrote};
 use board::{BOARD, Choice, NONE, better, ends_at, homes_at, joins_of, side_at, spared_row};
 use filler::Tables;
 use relations::{bit, single, split, whole, within};
-use router::{put, put_route, site_for};
+use router::{Writer, site_for};
 use rules::Step;
 use sender::Sending;
 
@@ -118,10 +118,11 @@ fn due_at(tables: &Tables<'_>, set: usize, k: usize) -> Due
 
 // Writes the steps that deliver a set at a site: the load for one relation, else those of its join; then the sends that are due.
 #[cycle(write_delivered_write_joined)]
-fn write_delivered(tables: &Tables<'_>, out: &mut [u8], at: usize, due: Due) -> usize
-    requires { (q : Query) × (ToDeliver ◌+◌ q (lent_of tables.now) due.set due.site due.figure × (at + length (step_bytes (written_delivered ◌+◌ q due.set due.site)) ≤ length out.old)) }
-    ensures { (q : Query) → ToDeliver ◌+◌ q (lent_of tables.now) due.set due.site due.figure →
-        Wrote out.old at (step_bytes (written_delivered ◌+◌ q due.set due.site)) result out.new }
+fn write_delivered(tables: &Tables<'_>, plan: &mut Writer<'_>, due: Due)
+    requires { (q : Query) × (ToDeliver ◌+◌ q (lent_of tables.now) due.set due.site due.figure × (plan.old.at + length (step_bytes (written_delivered ◌+◌ q due.set due.site)) ≤ length plan.old.bytes.now)) }
+    ensures same { plan.new.bytes.ghost_name ≡ plan.old.bytes.ghost_name }
+    ensures wrote { (q : Query) → ToDeliver ◌+◌ q (lent_of tables.now) due.set due.site due.figure →
+        Wrote plan.old.bytes.now plan.old.at (step_bytes (written_delivered ◌+◌ q due.set due.site)) plan.new.at plan.new.bytes.now }
 {
     let sending = Sending {
         board: tables.board,
@@ -130,28 +131,29 @@ fn write_delivered(tables: &Tables<'_>, out: &mut [u8], at: usize, due: Due) -> 
     if due.set.count_ones() == 1 {
         let r = due.set.trailing_zeros() as usize;
         let home = homes_at(tables.board, r).trailing_zeros() as usize;
-        let next = put(&mut *out, at, Step::Load(r));
-        return put_route(sending, &mut *out, next, home, due.site, due.figure);
+        plan.put(Step::Load(r));
+        return plan.put_route(sending, home, due.site, due.figure);
     }
     let from = join_site(tables, due);
-    let next = write_joined(tables, &mut *out, at, due.set, from.at);
-    put_route(sending, &mut *out, next, from.at, due.site, from.figure)
+    write_joined(tables, plan, due.set, from.at);
+    plan.put_route(sending, from.at, due.site, from.figure)
 }
 
 // Writes the steps that join a set at k: the part with the join's first relation, the other part and the join.
 #[cycle(write_delivered_write_joined)]
-fn write_joined(tables: &Tables<'_>, out: &mut [u8], at: usize, set: usize, k: usize) -> usize
-    requires { (q : Query) × (ToJoin ◌+◌ q (lent_of tables.now) set k × (at + length (step_bytes (written_joined ◌+◌ q set k)) ≤ length out.old)) }
-    ensures { (q : Query) → ToJoin ◌+◌ q (lent_of tables.now) set k →
-        Wrote out.old at (step_bytes (written_joined ◌+◌ q set k)) result out.new }
+fn write_joined(tables: &Tables<'_>, plan: &mut Writer<'_>, set: usize, k: usize)
+    requires { (q : Query) × (ToJoin ◌+◌ q (lent_of tables.now) set k × (plan.old.at + length (step_bytes (written_joined ◌+◌ q set k)) ≤ length plan.old.bytes.now)) }
+    ensures same { plan.new.bytes.ghost_name ≡ plan.old.bytes.ghost_name }
+    ensures wrote { (q : Query) → ToJoin ◌+◌ q (lent_of tables.now) set k →
+        Wrote plan.old.bytes.now plan.old.at (step_bytes (written_joined ◌+◌ q set k)) plan.new.at plan.new.bytes.now }
 {
     let e = last_join(tables, set, k);
     let parts = split(set, side_at(tables.board, e));
     let one = due_at(tables, parts.first, k);
-    let next = write_delivered(tables, &mut *out, at, one);
+    write_delivered(tables, plan, one);
     let other = due_at(tables, parts.second, k);
-    let last = write_delivered(tables, &mut *out, next, other);
-    put(&mut *out, last, Step::Join(e))
+    write_delivered(tables, plan, other);
+    plan.put(Step::Join(e))
 }
 
 // Writes the plan: its count of steps, then the steps.
@@ -167,7 +169,9 @@ pub(crate) fn write_plan(tables: &Tables<'_>, out: &mut [u8], target: usize, fig
         site: target,
         figure,
     };
-    let end = write_delivered(tables, &mut *out, 1, due);
+    let mut plan = Writer { bytes: out, at: 1 };
+    write_delivered(tables, &mut plan, due);
+    let end = plan.at;
     out[0] = ((end - 1) / 2) as u8;
     end
 }
