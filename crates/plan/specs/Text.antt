@@ -1,7 +1,8 @@
 -- What a listing says, as rule 10.2 has it: a line for the answer, and one for each step.
-use Rattle.std.specs.Prelude.{ℕ, zero, suc, ◌==◌, if◌then◌else◌, List, [], ◌∷◌, ◌++◌, codes, drop, get_or, Result, Ok, Err}
+use Rattle.std.specs.Prelude.{ℕ, zero, suc, ◌==◌, ◌≡◌, if◌then◌else◌, List, [], ◌∷◌, ◌++◌, codes, drop, get_or, Result, Ok, Err}
 use Rattle.std.specs.Fmt.{decimal}
 use Rattle.query.specs.declared.refusal.Refusal.{Refusal}
+use Rattle.query.specs.declared.refusal.Refusal.TheVariants.{NotReached}
 use Rattle.query.specs.Refusals.{refused_text}
 use Rattle.planner.specs.declared.Solution.{Solution}
 use Rattle.planner.specs.declared.Solution.TheVariants.{Found, NoRoute}
@@ -34,3 +35,9 @@ text_of (Err r) output = refused_text r ++ codes "\n"
 
 abbrev pub text : Listing → List ℕ
 text l = text_of l.answer l.output
+
+-- The listing of Q, that of no route and that of a refused file, byte by byte.
+pub record Listings : Type 0 where
+  pub q : plan_text 21 3 (4 ∷ 1 ∷ 0 ∷ 1 ∷ 1 ∷ 2 ∷ 0 ∷ 3 ∷ 0 ∷ []) ≡ codes "plan 4 cost 21 trials 3\nload 0\nload 1\nsend 0\njoin 0\n"
+  pub unreached : text_of (Ok (NoRoute 3)) [] ≡ codes "no route trials 3\n"
+  pub rejected : text_of (Err NotReached) [] ≡ codes "refused 4\n"
