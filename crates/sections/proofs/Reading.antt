@@ -1,12 +1,16 @@
--- What a field gives by its tests: cut, out of range, or whole.
+-- What a field gives by its tests: cut, out of range, or whole. And the rules' numbering of the refusals is one of all.
 use Prim.Native.Nat.{ℕ, ◌≤◌, ◌<◌}
-use mathlib.Core.Path.{◌≡◌, sym, ◌∙◌}
+use mathlib.Core.Path.{◌≡◌, refl, sym, ◌∙◌}
 use mathlib.Core.Bool.{Bool, true, false, ◌&&◌}
 use mathlib.Core.List.{List}
 use lib.ListN.{length, take, drop}
 use lib.Dec.{leb}
 use borrow.Author.Tests.{lt-ltb, le-ltb}
+use Rattle.std.specs.Prelude.{Result, Ok, Err}
+use Rattle.query.specs.declared.refusal.Refusal.{Refusal}
+use Rattle.query.specs.Refusals.{number_of}
 use Rattle.sections.specs.Fields.{refused, value, number, field}
+use Rattle.sections.specs.Code.{read_of, read_by}
 use Rattle.sections.proofs.Parts.{number_taken}
 
 module _ (w fault low high : ℕ) (l : List ℕ) where
@@ -29,3 +33,7 @@ module _ (w fault low high : ℕ) (l : List ℕ) where
     field_whole rest r h = rw (le-ltb _ _ whole, same_number, ← test, h, r)
 
 pub ruleset judged = (field_cut, field_out, field_whole)
+
+pub by_number : {A : Type 0} (r : Result A Refusal) (l : List ℕ) → read_of r l ≡ read_by number_of r l
+by_number (Ok a) l = refl
+by_number (Err k) l = refl

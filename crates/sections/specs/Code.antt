@@ -9,6 +9,11 @@ abbrev pub read_of : {A : Type 0} → Result A Refusal → List ℕ → Read A
 read_of (Ok a) l = value a l
 read_of (Err r) l = refused (number_of r)
 
+-- The same of refusals of any kind, by a numbering of them.
+abbrev pub read_by : {A E : Type 0} → (E → ℕ) → Result A E → List ℕ → Read A
+read_by number (Ok a) l = value a l
+read_by number (Err e) l = refused (number e)
+
 -- The same where what was read is in a thing that was lent.
 abbrev pub read_into : {A : Type 0} → Result Unit Refusal → A → List ℕ → Read A
 read_into (Ok u) a l = value a l

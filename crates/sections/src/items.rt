@@ -1,5 +1,5 @@
 // The two kinds of items that sections hold: terms (of a site or a line) and two bytes (of a relation or a join).
-ghost use Rattle.std.specs.Prelude.{◌≤◌, ◌≡◌};
+ghost use Rattle.std.specs.Prelude.{◌+◌, ◌≤◌, ◌≡◌, length, OnOk};
 ghost use Rattle.sections.specs.Code.{read_of};
 
 use crate::fields::Part;
@@ -36,7 +36,8 @@ impl<'a> Part<'a> {
     #[tactic(auto, unfolding(crate::specs::Sections::two))]
     pub(crate) fn two(&mut self, a: usize, b: usize) -> Result<Two, Refusal>
         requires { (1 ≤ a) × (1 ≤ b) }
-        ensures { read_of result self.new ≡ two a b self.old }
+        ensures value { read_of result self.new ≡ two a b self.old }
+        ensures taken { OnOk result (length self.old ≡ length self.new + 2) }
     {
         Ok(Two {
             one: self.byte_below(a)?,

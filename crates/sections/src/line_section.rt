@@ -1,5 +1,5 @@
 // The section Lines: by sender, then receiver, the sender itself left out.
-ghost use Rattle.std.specs.Prelude.{◌≤◌, ◌<◌, ◌≡◌};
+ghost use Rattle.std.specs.Prelude.{◌≤◌, ◌<◌, ◌≡◌, OnErr};
 ghost use Rattle.sections.specs.Sections.{sender, lines_section};
 ghost use Rattle.sections.specs.Code.{read_of, read_into};
 
@@ -28,13 +28,16 @@ fn read_sender(part: &mut Part, s: usize, a: usize, lines: &mut Lines) -> Result
 #[tactic(auto, using(crate::proofs::Loops::loops, crate::proofs::LineLaws::pairs_fit), unfolding(crate::specs::Sections::lines_section))]
 pub fn read_lines(part: &mut Part, s: usize) -> Result<Lines, Refusal>
     requires { (1 ≤ s) × (s ≤ 8) }
-    ensures { read_of result part.new ≡ lines_section s part.old }
+    ensures value { read_of result part.new ≡ lines_section s part.old }
+    ensures unchanged { OnErr result (part.new ≡ part.old) }
 {
     let due = s * (s - 1);
-    part.count(due, due)?;
+    let mut left = part.fork();
+    left.count(due, due)?;
     let mut lines = no_lines();
     for a in 0..s {
-        read_sender(part, s, a, &mut lines)?;
+        read_sender(&mut left, s, a, &mut lines)?;
     }
+    *part = left;
     Ok(lines)
 }

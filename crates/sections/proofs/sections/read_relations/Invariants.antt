@@ -7,4 +7,4 @@ use Rattle.sections.proofs.sections.read_relations.Given as goal
 
 abbrev pub invariant-loop-i : goal.invariant-loop-i
 invariant-loop-i l =
-    (l.relations.count ≡ l.count) × (relations_section l.s l.fn.part ≡ items (storing (two l.s 2) with_relation) (l.count - l.i) l.i l.relations l.part)
+    (l.relations.count ≡ l.count) × (relations_section l.s l.fn.part ≡ items (storing (two l.s 2) with_relation) (l.count - l.i) l.i l.relations l.left)

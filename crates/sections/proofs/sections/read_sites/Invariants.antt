@@ -7,4 +7,4 @@ use Rattle.sections.proofs.sections.read_sites.Given as goal
 
 abbrev pub invariant-loop-i : goal.invariant-loop-i
 invariant-loop-i l =
-    (l.sites.count ≡ l.count) × (sites_section l.fn.part ≡ items (storing terms with_site) (l.count - l.i) l.i l.sites l.part)
+    (l.sites.count ≡ l.count) × (sites_section l.fn.part ≡ items (storing terms with_site) (l.count - l.i) l.i l.sites l.left)
