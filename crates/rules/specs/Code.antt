@@ -1,6 +1,6 @@
 -- How the code's values are read: two bytes as a step, its state as a machine, a step's outcome and a plan's verdict. And what a run keeps, so
 -- that every sum fits.
-use Rattle.std.specs.Prelude.{ℕ, ◌+◌, ◌*◌, ◌^◌, ◌≤◌, ◌<◌, ◌≡◌, List, [], ◌∷◌, length, get_or, eqb, reverse, Result, Ok, Err}
+use Rattle.std.specs.Prelude.{ℕ, ◌+◌, ◌*◌, ◌^◌, ◌≤◌, ◌<◌, ◌≡◌, List, [], ◌∷◌, length, get_or, eqb, reverse, take, Result, Ok, Err}
 use Rattle.std.specs.Int.Count.{ones}
 use Rattle.query.specs.declared.Charge.{Charge}
 use Rattle.query.specs.declared.refusal.Refusal.{Refusal}
@@ -11,6 +11,7 @@ use Rattle.query.specs.Refusals.{number_of}
 use Rattle.rules.specs.declared.Step as code
 use Rattle.rules.specs.declared.Step.TheVariants.{Load, Send, Join}
 use Rattle.rules.specs.declared.Held.{Held}
+use Rattle.rules.specs.declared.Stack.{Stack}
 use Rattle.rules.specs.declared.State.{State}
 use Rattle.rules.specs.declared.Rejection.{Rejection}
 use Rattle.rules.specs.Machine.{Step, Machine, Outcome, went, refused}
@@ -24,12 +25,15 @@ abbrev pub step_read : (kind arg : ℕ) → Result code.Step Refusal
 step_read kind arg =
     pick (eqb kind 1) (Ok (Load arg)) (pick (eqb kind 2) (Ok (Send arg)) (pick (eqb kind 3) (Ok (Join arg)) (Err UnknownStep)))
 
--- The held results, the top first.
-abbrev pub stack_of : State → List Held
-stack_of s = reverse s.held.items
+-- The entries in use, and what is held, the top first.
+abbrev pub entries : Stack → List Held
+entries s = take s.depth s.held
+
+abbrev pub stack_of : Stack → List Held
+stack_of s = reverse (entries s)
 
 abbrev pub machine_of : State → Machine
-machine_of s = record { loaded = s.loaded; stack = stack_of s }
+machine_of s = record { loaded = s.loaded; stack = stack_of s.stack }
 
 -- What a step of the code gives, with the state that it leaves.
 abbrev pub outcome_of : {A : Type 0} → Result A Refusal → State → Outcome

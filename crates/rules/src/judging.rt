@@ -15,7 +15,7 @@ fn finish(q: &Query, state: &State) -> Result<Charge, Refusal>
     requires { relations_of q.now ≤ 9 }
     ensures { (i : ℕ) → verdict_at i result ≡ finish q.now i (machine_of state.now).stack }
 {
-    match state.held.as_slice() {
+    match state.stack.as_slice() {
         [h] if h.set == whole(q.relations.count) && h.site == q.target => Ok(h.figure),
         _ => Err(Refusal::WrongEnd),
     }

@@ -1,13 +1,15 @@
 // The plan rules: the stack machine (rules 4.1 to 4.7), and the checker that runs a plan on it.
 #![tactic(auto)]
 
-use arrayvec::ArrayVec;
+ghost use Rattle.std.specs.Prelude.{◌≤◌};
+
 use query::{Charge, Refusal};
 
 mod combining;
 mod judging;
 mod prices;
 mod reading;
+mod stacking;
 mod stepping;
 
 pub use combining::combine;
@@ -45,11 +47,20 @@ pub struct Held {
     pub figure: Charge,
 }
 
-// The relations loaded so far, as a set, and the held results, the top last. Each relation is loaded at most once, so nine are enough.
-#[derive(Drop)]
+// The held results: depth of them, the top last. Each relation is loaded at most once, so nine are enough.
+// (`ArrayVec` of the kit would be these two fields, but a state is `Copy`, which it is not.)
+#[derive(Clone, Copy)]
+pub struct Stack {
+    pub held: [Held; 9],
+    pub depth: usize,
+    ghost few: { depth ≤ 9 },
+}
+
+// The relations loaded so far, as a set, and the held results.
+#[derive(Clone, Copy)]
 pub struct State {
     pub loaded: usize,
-    pub held: ArrayVec<Held, 9>,
+    pub stack: Stack,
 }
 
 // Why a plan is rejected, and at which step.

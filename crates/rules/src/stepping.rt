@@ -5,8 +5,7 @@ ghost use Rattle.rules.specs.Machine.{start, load, send, join, step, links};
 ghost use Rattle.rules.specs.Allowed.{most_steps};
 ghost use Rattle.rules.specs.Code.{machine_of, outcome_of, Room};
 
-use crate::{Held, State, Step};
-use arrayvec::ArrayVec;
+use crate::{Held, Stack, State, Step};
 use query::{Query, Refusal};
 use relations::bit;
 
@@ -47,7 +46,7 @@ impl State {
     {
         State {
             loaded: 0,
-            held: ArrayVec::new(),
+            stack: Stack::new(),
         }
     }
 
@@ -66,7 +65,7 @@ impl State {
         }
         let bare = Held::bare(q, r);
         self.loaded += bare.set;
-        self.held.push(bare);
+        self.stack.push(bare);
         Ok(())
     }
 
@@ -80,12 +79,12 @@ impl State {
         if q.sites.count <= t {
             return Err(Refusal::UnknownStep);
         }
-        let top = match self.held.as_slice() {
+        let top = match self.stack.as_slice() {
             [.., top] if may_send(q, *top, t) => *top,
             _ => return Err(Refusal::SendNotAllowed),
         };
-        self.held.pop();
-        self.held.push(top.sent(q, t));
+        self.stack.pop();
+        self.stack.push(top.sent(q, t));
         Ok(())
     }
 
@@ -99,13 +98,13 @@ impl State {
         if q.joins.count <= e {
             return Err(Refusal::UnknownStep);
         }
-        let (a, b) = match self.held.as_slice() {
+        let (a, b) = match self.stack.as_slice() {
             [.., a, b] if may_join(q, *a, *b, e) => (*a, *b),
             _ => return Err(Refusal::JoinNotAllowed),
         };
-        self.held.pop();
-        self.held.pop();
-        self.held.push(Held::joined(q, a, b));
+        self.stack.pop();
+        self.stack.pop();
+        self.stack.push(Held::joined(q, a, b));
         Ok(())
     }
 
