@@ -6,7 +6,7 @@ mod zeros;
 
 pub use refusal::Refusal;
 use relations::{Joins, SETS};
-pub use zeros::{no_joins, no_lines, no_relations, no_sites};
+pub use zeros::{no_joins, no_lines, no_query, no_relations, no_sites};
 
 pub mod price;
 

@@ -47,12 +47,12 @@ none_in J A e = go (eqb (bit A f + bit A s) 0) refl
         (omega (arith, ap (λ (x : ℕ). bit x f) q, ap (λ (x : ℕ). bit x s) q, bit_none f, bit_none s, bit_and_lem A M f, bit_and_lem A M s, bit_put (2 ^ f) s f, bit_put (2 ^ f) s s, bit_pow f, bit_pow s))
 
 -- A join is skipped by its number; the count of joins, which is no join, skips none.
-skipped : (J : Joins) (skip : Option ℕ) (e : ℕ) → e < J.count → is_skipped skip e ≡ eqb e (unwrap_or skip J.count)
+skipped : (J : Joins) (skip : Option ℕ) (e : ℕ) → (skip ≡ None → e < J.count) → is_skipped skip e ≡ eqb e (unwrap_or skip J.count)
 skipped J (Some x) e h = refl
-skipped J None e h = sym (ne_eqb e J.count (λ q. omega arith))
+skipped J None e h = let below = h refl in sym (ne_eqb e J.count (λ q. omega (arith, below)))
 
--- By its ends a join leads out just where it does by its two relations.
-leads_by_lem : (J : Joins) (l : List ℕ) (S : ℕ) (skip : Option ℕ) (A e : ℕ) → get_or l e 0 ≡ ends_of J e → e < J.count → leads_by l S skip A e ≡ leads J S (unwrap_or skip J.count) A e
+-- By its ends a join leads out just where it does by its two relations. Where none is skipped this is said of the joins that there are.
+leads_by_lem : (J : Joins) (l : List ℕ) (S : ℕ) (skip : Option ℕ) (A e : ℕ) → get_or l e 0 ≡ ends_of J e → (skip ≡ None → e < J.count) → leads_by l S skip A e ≡ leads J S (unwrap_or skip J.count) A e
 unfolding leads leads_out inside
 leads_by_lem J l S skip A e is h =
     rw (is, skipped J skip e h, ends_in J S e, none_in J A e, inside_counts) (go (not (eqb e (unwrap_or skip J.count))) (inside J S e) (bit A (first J e) + bit A (second J e)) (omega (arith, bit_le A (first J e), bit_le A (second J e))))
@@ -73,7 +73,7 @@ module _ (J : Joins) (l : List ℕ) (S : ℕ) (skip : Option ℕ) (A : ℕ) (g :
   x = unwrap_or skip J.count
 
   same : (i : ℕ) → i < length l → leads_by l S skip A i ≡ leads J S x A i
-  same i h = leads_by_lem J l S skip A i (g.ends.each i (omega (arith, g.ends.long))) (omega (arith, g.ends.long))
+  same i h = leads_by_lem J l S skip A i (g.ends.each i (omega (arith, g.ends.long))) (λ none. omega (arith, g.ends.long))
 
   pub grow_done : FirstLeading l S skip A None → A ≡ grow J S x (J.count + 1) A
   grow_done f = sym (grow_still J S x (J.count + 1) A (closed_of_none J S x A (λ i b. let h : i < length l = omega (arith, g.ends.long) in sym (same i h) ∙ f i h)))
