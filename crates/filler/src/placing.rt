@@ -4,6 +4,15 @@ ghost use Rattle.relations.specs.Code.{most_sets};
 ghost use Rattle.filler.specs.Cells.{place_in, reach};
 
 use crate::trials::Tables;
+use relations::SETS;
+
+// The place of a subquery's cell at a site, by the list of places alone.
+pub fn place(places: &[u32; SETS], set: usize, site: usize) -> usize
+    requires { (set < most_sets) × (site < 8) }
+    ensures { result ≡ place_in places.now set site }
+{
+    places[set] as usize + site
+}
 
 impl Tables<'_> {
     // The place of a subquery's cell at a site, by the places of the first cells.
@@ -11,7 +20,7 @@ impl Tables<'_> {
         requires { (set < most_sets) × (site < 8) }
         ensures { result ≡ place_in self.now.places.now set site }
     {
-        self.places[set] as usize + site
+        place(self.places, set, site)
     }
 }
 

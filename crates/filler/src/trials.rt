@@ -1,5 +1,5 @@
 // What a trial is: two parts of a subquery, each delivered at a site, and the price of their join there.
-ghost use Rattle.std.specs.Prelude.{◌+◌, ◌^◌, ◌≤◌, ◌<◌, ◌≡◌};
+ghost use Rattle.std.specs.Prelude.{◌+◌, ◌^◌, ◌≤◌, ◌<◌, ◌≡◌, get_or};
 ghost use Rattle.relations.specs.Code.{most_sets};
 ghost use Rattle.board.specs.Figures.{none_mark};
 ghost use Rattle.filler.specs.Trials.{lent_of, size_in, Priced, price_in, Triable, trial_of};
@@ -19,13 +19,21 @@ pub struct Tables<'a> {
     pub work: &'a [u64],
 }
 
+// The size of a set, by the list of sizes alone.
+pub fn size_of(sizes: &[u32; SETS], set: usize) -> Bytes
+    requires { set < most_sets }
+    ensures { result.0 ≡ get_or sizes.now set 0 }
+{
+    Bytes(u64::from(sizes[set]))
+}
+
 impl Tables<'_> {
     // The size of a set.
     pub fn size_of(&self, set: usize) -> Bytes
         requires { set < most_sets }
         ensures { result.0 ≡ size_in (lent_of self.now) set }
     {
-        Bytes(u64::from(self.sizes[set]))
+        size_of(self.sizes, set)
     }
 
     // The price of joining two parts at site k, by the row with what is spared of them.

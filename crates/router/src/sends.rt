@@ -1,5 +1,5 @@
 // The sends of a route, written as steps of a plan.
-ghost use Rattle.std.specs.Prelude.{◌+◌, ◌≤◌, ◌<◌, ◌≡◌, length};
+ghost use Rattle.std.specs.Prelude.{◌+◌, ◌≤◌, ◌<◌, ◌≡◌, [], ◌∷◌, length};
 ghost use Rattle.tables.specs.Written.{send_steps, step_bytes};
 ghost use Rattle.board.specs.Board.{sites_at};
 ghost use Rattle.router.specs.Wrote.{Wrote, arg_of, bytes_of};
@@ -19,20 +19,28 @@ pub struct Writer<'a> {
 }
 
 impl Writer<'_> {
+    // Writes two bytes, a kind and an argument, whatever the kind.
+    pub fn put_pair(&mut self, kind: u8, arg: usize)
+        requires { (self.old.at + 2 ≤ length self.old.bytes.now) × (arg < 256) }
+        ensures same { self.new.bytes.ghost_name ≡ self.old.bytes.ghost_name }
+        ensures wrote { Wrote self.old.bytes.now self.old.at (kind ∷ (arg ∷ [])) self.new.at self.new.bytes.now }
+    {
+        self.bytes[self.at] = kind;
+        self.bytes[self.at + 1] = arg as u8;
+        self.at += 2;
+    }
+
     // Writes a step.
     pub fn put(&mut self, step: Step)
         requires { (self.old.at + 2 ≤ length self.old.bytes.now) × (arg_of step < 256) }
         ensures same { self.new.bytes.ghost_name ≡ self.old.bytes.ghost_name }
         ensures wrote { Wrote self.old.bytes.now self.old.at (bytes_of step) self.new.at self.new.bytes.now }
     {
-        let (kind, arg) = match step {
-            Step::Load(r) => (1, r),
-            Step::Send(t) => (2, t),
-            Step::Join(e) => (3, e),
-        };
-        self.bytes[self.at] = kind;
-        self.bytes[self.at + 1] = arg as u8;
-        self.at += 2;
+        match step {
+            Step::Load(r) => self.put_pair(1, r),
+            Step::Send(t) => self.put_pair(2, t),
+            Step::Join(e) => self.put_pair(3, e),
+        }
     }
 
     // Writes i sends from k on to t, by the table of routes to t.
