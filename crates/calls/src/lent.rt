@@ -10,6 +10,15 @@ pub(crate) fn byte_before(i: usize) -> u8 {
     (i.wrapping_mul(37).wrapping_add(11) % 256) as u8
 }
 
+// Fills what is lent. In place: an array by `from_fn` is copied once more.
+pub(crate) fn fill<T: Drop, F: Fn(usize) -> T>(lent: &mut [T], before: F)
+    requires { F.IsAlwaysCallable before }
+{
+    for (i, x) in lent.iter_mut().enumerate() {
+        *x = before(i);
+    }
+}
+
 // Whether everything from a place on is as it was filled.
 pub(crate) fn kept<T: PartialEq + Drop, F: Fn(usize) -> T>(
     lent: &[T],

@@ -20,10 +20,10 @@ fn main(rt: HostRuntime) {
 fn run(script: &mut impl Read, out: &impl Print) -> io::Result<()> {
     let mut p = planner::empty();
     for _ in 0..u64::MAX {
-        let Some(after) = records::next(script, out, p) else {
+        let Some(written) = records::next(script, out, &mut p) else {
             break;
         };
-        p = after?;
+        written?;
     }
     Ok(())
 }

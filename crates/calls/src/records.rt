@@ -1,5 +1,6 @@
 // One record of a script: the call that it names, and the line that it prints.
-// Each function answers the planner with which the run goes on, an error where its answer was not written, or None where the script is cut.
+// Each function leaves the planner with which the run goes on, and answers whether its answer was written, or None where the script is cut. (Handed back
+// in the answer, the planner would be copied for each Result and Option around it.)
 use crate::{answers, input, lent};
 use planner::{After, Loaded, Planner};
 use std::io;
@@ -11,8 +12,8 @@ use std::io::Read;
 pub(crate) fn next(
     script: &mut impl Read,
     out: &impl Print,
-    p: Planner,
-) -> Option<io::Result<Planner>> {
+    p: &mut Planner,
+) -> Option<io::Result<()>> {
     let [kind]: [u8; 1] = input::bytes(script)?;
     match kind {
         1 => load(script, out, p, |p, file| planner::load(p, file)),
@@ -20,7 +21,7 @@ pub(crate) fn next(
         5 => check(script, out, p),
         6 => solve(script, out, p),
         7 => load(script, out, p, |p, file| planner::load_rows(p, file)),
-        8 => room(script, out, p),
+        8 => room(script, out),
         _ => None,
     }
 }
@@ -29,55 +30,56 @@ pub(crate) fn next(
 fn load<F: Fn(Planner, &[u8]) -> After<Loaded>>(
     script: &mut impl Read,
     out: &impl Print,
-    p: Planner,
+    p: &mut Planner,
     call: F,
-) -> Option<io::Result<Planner>>
+) -> Option<io::Result<()>>
     requires { F.IsAlwaysCallable call }
 {
     let mut buffer = [0u8; 65536];
-    let after = call(p, input::counted(script, &mut buffer)?);
-    let written = answers::of_load(out, after.answer);
-    Some(written.map(|()| after.planner))
+    let after = call(*p, input::counted(script, &mut buffer)?);
+    *p = after.planner;
+    Some(answers::of_load(out, after.answer))
 }
 
 // 2 link: sender, receiver, open, fixed, rate as five u64.
-fn link(script: &mut impl Read, out: &impl Print, p: Planner) -> Option<io::Result<Planner>> {
+fn link(script: &mut impl Read, out: &impl Print, p: &mut Planner) -> Option<io::Result<()>> {
     let sender = input::number(script)?;
     let receiver = input::number(script)?;
     let opened = input::number(script)?;
     let fixed = input::number(script)?;
     let rate = input::number(script)?;
-    let after = planner::link(p, sender, receiver, opened, fixed, rate);
-    let written = answers::of_link(out, after.answer);
-    Some(written.map(|()| after.planner))
+    let after = planner::link(*p, sender, receiver, opened, fixed, rate);
+    *p = after.planner;
+    Some(answers::of_link(out, after.answer))
 }
 
 // 5 check: u16 length, plan bytes.
-fn check(script: &mut impl Read, out: &impl Print, p: Planner) -> Option<io::Result<Planner>> {
+fn check(script: &mut impl Read, out: &impl Print, p: &Planner) -> Option<io::Result<()>> {
     let mut buffer = [0u8; 65536];
-    let answer = planner::check(p, input::counted(script, &mut buffer)?);
-    Some(answers::of_check(out, answer).map(|()| p))
+    let answer = planner::check(*p, input::counted(script, &mut buffer)?);
+    Some(answers::of_check(out, answer))
 }
 
 // 6 solve: u32 number of cells lent, at most 8,192; u32 length of the output lent, at most 4,096.
-fn solve(script: &mut impl Read, out: &impl Print, p: Planner) -> Option<io::Result<Planner>> {
+fn solve(script: &mut impl Read, out: &impl Print, p: &Planner) -> Option<io::Result<()>> {
     let n = (input::word(script)? as usize).min(8192);
     let m = (input::word(script)? as usize).min(4096);
-    let mut most_cells: [u64; 8192] = std::array::from_fn(lent::cell_before);
-    let mut most_output: [u8; 4096] = std::array::from_fn(lent::byte_before);
+    let mut most_cells = [0u64; 8192];
+    let mut most_output = [0u8; 4096];
+    lent::fill(&mut most_cells, lent::cell_before);
+    lent::fill(&mut most_output, lent::byte_before);
     let cells = &mut most_cells[..n];
     let output = &mut most_output[..m];
-    let answer = planner::solve(p, cells, output);
-    let needed = planner::cells_needed(p);
-    let written = answers::of_solve(out, answer, needed, cells, output);
-    Some(written.map(|()| p))
+    let answer = planner::solve(*p, cells, output);
+    let needed = planner::cells_needed(*p);
+    Some(answers::of_solve(out, answer, needed, cells, output))
 }
 
-// 8 room: n and s as two u64, u16 length, join bytes. It takes no planner, so that the run goes on with the one that stands.
-fn room(script: &mut impl Read, out: &impl Print, p: Planner) -> Option<io::Result<Planner>> {
+// 8 room: n and s as two u64, u16 length, join bytes. It takes no planner.
+fn room(script: &mut impl Read, out: &impl Print) -> Option<io::Result<()>> {
     let n = input::number(script)?;
     let s = input::number(script)?;
     let mut buffer = [0u8; 65536];
     let answer = room::room(n, s, input::counted(script, &mut buffer)?);
-    Some(answers::of_room(out, answer).map(|()| p))
+    Some(answers::of_room(out, answer))
 }
