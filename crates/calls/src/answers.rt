@@ -1,10 +1,11 @@
-// The lines of each call's answer.
+// The lines of each call's answer. Each word and number is a write of its own, so that of a line that does not fit what fits is written.
 ghost use Rattle.std.specs.Prelude.{◌≤◌, ◌<◌, length};
 
 use crate::lent::{byte_before, cell_before, kept};
 use planner::{Charge, Loaded, Refusal, Rejection, Solution};
 use room::Figures;
 use std::io;
+use std::io::Write;
 
 fn hex_digit(d: u8) -> u8
     requires { d < 16 }
@@ -23,33 +24,38 @@ fn hex<'a>(bytes: &[u8], digits: &'a mut [u8; 8192]) -> &'a [u8]
     &digits[..2 * bytes.len()]
 }
 
-pub(crate) fn of_load(out: &impl Print, answer: Result<Loaded, Refusal>) -> io::Result<()> {
+pub(crate) fn of_load(out: &mut impl Write, answer: Result<Loaded, Refusal>) -> io::Result<()> {
     match answer {
-        Ok(load) => println!(out; "load {} {}", load.relations, load.subqueries),
-        Err(refusal) => println!(out; "{refusal}"),
+        Ok(load) => writeln!(out, "load {} {}", load.relations, load.subqueries),
+        Err(refusal) => writeln!(out, "{refusal}"),
     }
 }
 
-pub(crate) fn of_link(out: &impl Print, answer: Result<(), Refusal>) -> io::Result<()> {
+pub(crate) fn of_link(out: &mut impl Write, answer: Result<(), Refusal>) -> io::Result<()> {
     match answer {
-        Ok(()) => println!(out; "link"),
-        Err(refusal) => println!(out; "{refusal}"),
+        Ok(()) => writeln!(out, "link"),
+        Err(refusal) => writeln!(out, "{refusal}"),
     }
 }
 
 // `cells OK` or `cells CHANGED`: whether what must be unchanged is.
-fn say_kept(out: &impl Print, what: &str, kept: bool) -> io::Result<()> {
-    let how = if kept { "OK" } else { "CHANGED" };
-    println!(out; "{what} {how}")
+fn say_kept(out: &mut impl Write, what: &str, kept: bool) -> io::Result<()> {
+    let how = if kept { " OK\n" } else { " CHANGED\n" };
+    write!(out, "{what}{how}")
 }
 
 // Whether the cells from one on are as they were lent.
-fn say_cells(out: &impl Print, cells: &[u64], from: usize) -> io::Result<()> {
+fn say_cells(out: &mut impl Write, cells: &[u64], from: usize) -> io::Result<()> {
     say_kept(out, "cells", kept(cells, from, cell_before))
 }
 
 // Nothing was written to the output, and the cells from one on stay.
-fn say_unwritten(out: &impl Print, cells: &[u64], from: usize, output: &[u8]) -> io::Result<()> {
+fn say_unwritten(
+    out: &mut impl Write,
+    cells: &[u64],
+    from: usize,
+    output: &[u8],
+) -> io::Result<()> {
     say_cells(out, cells, from)?;
     say_kept(out, "output", kept(output, 0, byte_before))
 }
@@ -64,7 +70,7 @@ fn first_kept(refusal: Refusal, needed: usize) -> usize {
 
 // Solve's answer, and whether those of the lent cells and bytes stayed that must: without a refusal the cells past the needed ones.
 pub(crate) fn of_solve(
-    out: &impl Print,
+    out: &mut impl Write,
     answer: Result<Solution, Refusal>,
     needed: usize,
     cells: &[u64],
@@ -80,40 +86,44 @@ pub(crate) fn of_solve(
                 trials,
             },
         ) => {
-            print!(out; "solved {} {length} {trials} ", cost.0)?;
+            write!(out, "solved {} {length} {trials} ", cost.0)?;
             out.write_all(hex(output, &mut [0u8; 8192]))?;
-            println!(out; "")?;
+            writeln!(out)?;
             say_cells(out, cells, needed)
         }
         Ok(Solution::NoRoute { trials }) => {
-            println!(out; "no-route {trials}")?;
+            writeln!(out, "no-route {trials}")?;
             say_unwritten(out, cells, needed, output)
         }
         Err(refusal) => {
-            println!(out; "{refusal}")?;
+            writeln!(out, "{refusal}")?;
             say_unwritten(out, cells, first_kept(refusal, needed), output)
         }
     }
 }
 
 // The place of a step that is refused stands behind the refusal.
-pub(crate) fn of_check(out: &impl Print, answer: Result<Charge, Rejection>) -> io::Result<()> {
+pub(crate) fn of_check(out: &mut impl Write, answer: Result<Charge, Rejection>) -> io::Result<()> {
     match answer {
-        Ok(cost) => println!(out; "check {}", cost.0),
+        Ok(cost) => writeln!(out, "check {}", cost.0),
         Err(Rejection { refusal, place }) => match refusal {
             Refusal::UnknownStep
             | Refusal::LoadedBefore
             | Refusal::SendNotAllowed
             | Refusal::JoinNotAllowed
-            | Refusal::WrongEnd => println!(out; "{refusal} {place}"),
-            _ => println!(out; "{refusal}"),
+            | Refusal::WrongEnd => writeln!(out, "{refusal} {place}"),
+            _ => writeln!(out, "{refusal}"),
         },
     }
 }
 
-pub(crate) fn of_room(out: &impl Print, answer: Result<Figures, Refusal>) -> io::Result<()> {
+pub(crate) fn of_room(out: &mut impl Write, answer: Result<Figures, Refusal>) -> io::Result<()> {
     match answer {
-        Ok(room) => println!(out; "room {} {} {}", room.subqueries, room.cells, room.trials),
-        Err(refusal) => println!(out; "{refusal}"),
+        Ok(room) => writeln!(
+            out,
+            "room {} {} {}",
+            room.subqueries, room.cells, room.trials
+        ),
+        Err(refusal) => writeln!(out, "{refusal}"),
     }
 }

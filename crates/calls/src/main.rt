@@ -7,17 +7,17 @@ mod lent;
 mod records;
 
 use std::io;
-use std::io::Read;
+use std::io::{Read, Write};
 
 fn main(rt: HostRuntime) {
-    if run(&mut rt.stdin(), &rt).is_err() {
+    if run(&mut rt.stdin(), &mut rt.stdout()).is_err() {
         let _ = eprintln!(rt; "calls: an answer was not written");
     }
 }
 
 // Runs records until the script ends, or an answer was not written.
 // A proved loop has to end: no script has so many records.
-fn run(script: &mut impl Read, out: &impl Print) -> io::Result<()> {
+fn run(script: &mut impl Read, out: &mut impl Write) -> io::Result<()> {
     let mut p = planner::empty();
     for _ in 0..u64::MAX {
         let Some(written) = records::next(script, out, &mut p) else {

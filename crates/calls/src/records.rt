@@ -1,17 +1,18 @@
 // One record of a script: the call that it names, and the line that it prints.
 // Each function leaves the planner with which the run goes on, and answers whether its answer was written, or None where the script is cut. (Handed back
 // in the answer, the planner would be copied for each Result and Option around it.)
+// None of them is laid into `next`: what one needs of the stack the others are not to take.
 use crate::{answers, input, lent};
 use planner::{After, Loaded, Planner};
 use std::io;
-use std::io::Read;
+use std::io::{Read, Write};
 
 // The next record; one that is unknown ends the run as well.
 // Its number is a byte of the script that stands here and nowhere else: an enum would only say each twice.
 // The loads go in as closures: by its name alone, the check does not see the contract of another crate's function.
 pub(crate) fn next(
     script: &mut impl Read,
-    out: &impl Print,
+    out: &mut impl Write,
     p: &mut Planner,
 ) -> Option<io::Result<()>> {
     let [kind]: [u8; 1] = input::bytes(script)?;
@@ -27,9 +28,10 @@ pub(crate) fn next(
 }
 
 // 1 load and 7 load from rows: u16 length, bytes.
+#[inline(never)]
 fn load<F: Fn(Planner, &[u8]) -> After<Loaded>>(
     script: &mut impl Read,
-    out: &impl Print,
+    out: &mut impl Write,
     p: &mut Planner,
     call: F,
 ) -> Option<io::Result<()>>
@@ -42,7 +44,8 @@ fn load<F: Fn(Planner, &[u8]) -> After<Loaded>>(
 }
 
 // 2 link: sender, receiver, open, fixed, rate as five u64.
-fn link(script: &mut impl Read, out: &impl Print, p: &mut Planner) -> Option<io::Result<()>> {
+#[inline(never)]
+fn link(script: &mut impl Read, out: &mut impl Write, p: &mut Planner) -> Option<io::Result<()>> {
     let sender = input::number(script)?;
     let receiver = input::number(script)?;
     let opened = input::number(script)?;
@@ -54,14 +57,16 @@ fn link(script: &mut impl Read, out: &impl Print, p: &mut Planner) -> Option<io:
 }
 
 // 5 check: u16 length, plan bytes.
-fn check(script: &mut impl Read, out: &impl Print, p: &Planner) -> Option<io::Result<()>> {
+#[inline(never)]
+fn check(script: &mut impl Read, out: &mut impl Write, p: &Planner) -> Option<io::Result<()>> {
     let mut buffer = [0u8; 65536];
     let answer = planner::check(*p, input::counted(script, &mut buffer)?);
     Some(answers::of_check(out, answer))
 }
 
 // 6 solve: u32 number of cells lent, at most 8,192; u32 length of the output lent, at most 4,096.
-fn solve(script: &mut impl Read, out: &impl Print, p: &Planner) -> Option<io::Result<()>> {
+#[inline(never)]
+fn solve(script: &mut impl Read, out: &mut impl Write, p: &Planner) -> Option<io::Result<()>> {
     let n = (input::word(script)? as usize).min(8192);
     let m = (input::word(script)? as usize).min(4096);
     let mut most_cells = [0u64; 8192];
@@ -76,7 +81,8 @@ fn solve(script: &mut impl Read, out: &impl Print, p: &Planner) -> Option<io::Re
 }
 
 // 8 room: n and s as two u64, u16 length, join bytes. It takes no planner.
-fn room(script: &mut impl Read, out: &impl Print) -> Option<io::Result<()>> {
+#[inline(never)]
+fn room(script: &mut impl Read, out: &mut impl Write) -> Option<io::Result<()>> {
     let n = input::number(script)?;
     let s = input::number(script)?;
     let mut buffer = [0u8; 65536];

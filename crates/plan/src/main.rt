@@ -5,13 +5,15 @@ mod listing;
 
 ghost use Rattle.std.specs.Prelude.{◌≤◌, length};
 
-use std::io::Read;
+use std::io::{Read, Write};
 
 fn main(rt: HostRuntime) {
     // A file has at most 1,674 bytes, so the front of a longer input decides: whatever follows Delivery is refused by its first byte.
     let mut file = [0u8; 4096];
     let n = read_full(&mut rt.stdin(), &mut file);
-    if rt.print(listing::list(&file[..n])).is_err() {
+    // Each word and number is a write of its own, so that of a listing that does not fit what fits is written.
+    let listing = listing::list(&file[..n]);
+    if write!(rt.stdout(), "{listing}").is_err() {
         let _ = eprintln!(rt; "plan: the listing was not written");
     }
 }
