@@ -66,6 +66,7 @@ tests/c/run.sh
 echo "   the C tests: ok ($((SECONDS - began)) s)"
 stage "no list of joins is copied in the archive" tests/copies/run.sh
 stage "exit codes" tests/exits.sh
+stage "a pipe with little room, and little stack" tests/short.py
 stage "the stored cases of calls are the stated ones" calls_stated
 stage "the examples are packed from their texts" examples_packed
 stage "a draft's figures are shown by way of calls" draft_shown
