@@ -6,6 +6,10 @@ use Rattle.query.specs.declared.refusal.Refusal.TheVariants.{NotReached}
 use Rattle.query.specs.Refusals.{refused_text}
 use Rattle.planner.specs.declared.Solution.{Solution}
 use Rattle.planner.specs.declared.Solution.TheVariants.{Found, NoRoute}
+use Rattle.std.proofs.Math.Option.{none}
+use Rattle.planner.specs.State.{State}
+use Rattle.planner.specs.Load as Load
+use Rattle.planner.specs.Solve as Solve
 use Rattle.plan.specs.declared.listing.Listing.{Listing}
 
 -- `load 0`, `send 2`, `join 1`
@@ -35,6 +39,23 @@ text_of (Err r) output = refused_text r ++ codes "\n"
 
 abbrev pub text : Listing → List ℕ
 text l = text_of l.answer l.output
+
+-- What is to be listed of a file: the plan that solve finds where the file is loaded on an empty planner, with as many cells as it needs and room for the
+-- longest plan; that there is no route; or the refusal, of the load or of solve.
+abbrev pub refusal : ℕ → List ℕ
+refusal k = (codes "refused " ++ decimal k) ++ codes "\n"
+
+abbrev pub said_of : Solve.Answer → (output : List ℕ) → List ℕ
+said_of (Solve.found c l t) output = plan_text c t output
+said_of (Solve.no_route t) output = codes "no route trials " ++ decimal t ++ codes "\n"
+said_of (Solve.refused k) output = refusal k
+
+abbrev pub said_on : Load.Answer → State → List ℕ
+said_on (Load.loaded n m) s = said_of (Solve.solve_needed Solve.blank s).answer (Solve.solve_needed Solve.blank s).output
+said_on (Load.refused k) s = refusal k
+
+unfoldable pub said : List ℕ → List ℕ
+said file = said_on (Load.load file none).answer (Load.load file none).next
 
 -- The listing of Q, that of no route and that of a refused file, byte by byte.
 pub record Listings : Type 0 where

@@ -1,7 +1,7 @@
 // The listing of a query file's answer, as rule 10.2 has it: in decimal, a line for the answer and one for each step.
 ghost use Rattle.std.specs.Prelude.{◌≡◌, Some};
 ghost use Rattle.plan.specs.Lines.{lines, lines_of};
-ghost use Rattle.plan.specs.Text.{step_text, steps_text, text};
+ghost use Rattle.plan.specs.Text.{step_text, steps_text, text, said};
 
 use planner::{CELLS, LONGEST_PLAN, Refusal, Solution};
 use std::fmt;
@@ -79,7 +79,8 @@ impl fmt::Display for Listing {
 
 // The cheapest plan of a query file, no route, or the refusal.
 pub(crate) fn list(file: &[u8]) -> Listing
-    ensures { lines_of result ≡ lines file.now }
+    ensures says { text result ≡ said file.now }
+    ensures counts { lines_of result ≡ lines file.now }
 {
     let mut output = [0u8; LONGEST_PLAN];
     let loaded = planner::load(planner::empty(), file);
