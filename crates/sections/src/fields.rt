@@ -7,7 +7,7 @@ ghost use Rattle.sections.specs.Code.{read_of, read_by};
 use query::Refusal;
 use std::marker::Model;
 
-// A clause sees the bytes that are left. What is refused is not taken: the part is as it was.
+// A clause sees the bytes that are left. A field that is refused is not taken, and a section's reader that refuses leaves the part as it was.
 #[derive(Drop)]
 pub struct Part<'a> {
     rest: &'a [u8],
