@@ -1,8 +1,7 @@
 #!/usr/bin/env bash
-# The tests from outside: the C call at its boundary, what the archive copies, the programs' exit codes and what they
-# write where room is short, programs and archive
-# held to the reference, the tool, the installed copy. Over the programs in target/bin, which stand there after `make programs`
-# and after rt's gate, and over the archive, which is built here.
+# The tests from outside: the C call at its boundary, what the archive copies, the programs' exit codes and what they write where
+# room is short, programs and archive held to the reference, the tool, the installed copy. Over the programs in target/bin, which
+# stand there after `make programs` and after rt's gate, and over the archive, which is built here.
 #   outside.sh [seed=N] [files=N] [lists=N]   so many random files and lists of calls in each comparison, from that seed
 set -euo pipefail
 cd "$(dirname "$0")/.."
