@@ -32,11 +32,10 @@ impl Stack {
         self.depth += 1;
     }
 
-    // Takes the top away.
+    // Takes the top away, where there is one.
     pub(crate) fn pop(&mut self)
-        requires { 0 < length (entries self.old) }
         ensures { entries self.new ≡ take (length (entries self.old) - 1) (entries self.old) }
     {
-        self.depth -= 1;
+        self.depth = self.depth.saturating_sub(1);
     }
 }
