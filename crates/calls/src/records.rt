@@ -81,11 +81,12 @@ fn solve(script: &mut impl Read, out: &mut impl Write, p: &Planner) -> Option<io
 }
 
 // 8 room: n and s as two u64, u16 length, join bytes. It takes no planner.
+// The buffer stands first: made behind a `?` it would be cleared twice.
 #[inline(never)]
 fn room(script: &mut impl Read, out: &mut impl Write) -> Option<io::Result<()>> {
+    let mut buffer = [0u8; 65536];
     let n = input::number(script)?;
     let s = input::number(script)?;
-    let mut buffer = [0u8; 65536];
     let answer = room::room(n, s, input::counted(script, &mut buffer)?);
     Some(answers::of_room(out, answer))
 }
