@@ -50,7 +50,7 @@ def try_room(program, given, line):
 
 def try_stack(kilobytes, script, line):
     limit = (kilobytes * 1024, kilobytes * 1024)
-    run = subprocess.run(["target/bin/calls"], input=script, capture_output=True,
+    run = subprocess.run(["target/bin/calls"], input=script, capture_output=True, env={},
                          preexec_fn=lambda: resource.setrlimit(resource.RLIMIT_STACK, limit))
     if run.returncode != 0 or run.stdout != line:
         fail(f"calls on {kilobytes} KB of stack ends with {run.returncode} and writes {run.stdout}")

@@ -3,13 +3,13 @@ use Rattle.std.specs.Prelude.{ℕ, zero, suc, ◌==◌, ◌≡◌, if◌then◌e
 use Rattle.std.specs.Fmt.{decimal}
 use Rattle.query.specs.declared.refusal.Refusal.{Refusal}
 use Rattle.query.specs.declared.refusal.Refusal.TheVariants.{NotReached}
-use Rattle.query.specs.Refusals.{refused_text}
 use Rattle.planner.specs.declared.Solution.{Solution}
-use Rattle.planner.specs.declared.Solution.TheVariants.{Found, NoRoute}
+use Rattle.planner.specs.declared.Solution.TheVariants.{NoRoute}
 use Rattle.std.proofs.Math.Option.{none}
 use Rattle.planner.specs.State.{State}
 use Rattle.planner.specs.Load as Load
 use Rattle.planner.specs.Solve as Solve
+use Rattle.planner.specs.Code.{of_solve}
 use Rattle.plan.specs.declared.listing.Listing.{Listing}
 
 -- `load 0`, `send 2`, `join 1`
@@ -32,19 +32,11 @@ plan_text c t plan =
     codes "plan " ++ (decimal (get_or plan 0 0) ++ (codes " cost " ++ (decimal c ++ (codes " trials " ++ (decimal t ++ (codes "\n" ++
     steps_text (get_or plan 0 0) (drop 1 plan)))))))
 
-abbrev pub text_of : Result Solution Refusal → List ℕ → List ℕ
-text_of (Ok (Found c l t)) output = plan_text c.0 t output
-text_of (Ok (NoRoute t)) output = codes "no route trials " ++ decimal t ++ codes "\n"
-text_of (Err r) output = refused_text r ++ codes "\n"
-
-abbrev pub text : Listing → List ℕ
-text l = text_of l.answer l.output
-
--- What is to be listed of a file: the plan that solve finds where the file is loaded on an empty planner, with as many cells as it needs and room for the
--- longest plan; that there is no route; or the refusal, of the load or of solve.
+-- `refused 4`
 abbrev pub refusal : ℕ → List ℕ
 refusal k = (codes "refused " ++ decimal k) ++ codes "\n"
 
+-- What is listed of solve's answer: the plan that stands in the output, that there is no route, or the refusal.
 abbrev pub said_of : Solve.Answer → (output : List ℕ) → List ℕ
 said_of (Solve.found c l t) output = plan_text c t output
 said_of (Solve.no_route t) output = codes "no route trials " ++ decimal t ++ codes "\n"
@@ -54,11 +46,20 @@ abbrev pub said_on : Load.Answer → State → List ℕ
 said_on (Load.loaded n m) s = said_of (Solve.solve_needed Solve.blank s).answer (Solve.solve_needed Solve.blank s).output
 said_on (Load.refused k) s = refusal k
 
+-- What is listed of a file: it is loaded on an empty planner, and solved with as many cells as it needs and room for the longest plan.
 unfoldable pub said : List ℕ → List ℕ
 said file = said_on (Load.load file none).answer (Load.load file none).next
 
--- The listing of Q, that of no route and that of a refused file, byte by byte.
+-- What the code's listing says.
+abbrev pub text_of : Result Solution Refusal → List ℕ → List ℕ
+text_of answer output = said_of (of_solve answer) output
+
+abbrev pub text : Listing → List ℕ
+text l = text_of l.answer l.output
+
+-- The listing of Q, that of no route and that of a refusal, byte by byte; and that of a file with nine sites, which load refuses with 2.
 pub record Listings : Type 0 where
   pub q : plan_text 21 3 (4 ∷ 1 ∷ 0 ∷ 1 ∷ 1 ∷ 2 ∷ 0 ∷ 3 ∷ 0 ∷ []) ≡ codes "plan 4 cost 21 trials 3\nload 0\nload 1\nsend 0\njoin 0\n"
   pub unreached : text_of (Ok (NoRoute 3)) [] ≡ codes "no route trials 3\n"
   pub rejected : text_of (Err NotReached) [] ≡ codes "refused 4\n"
+  pub nine_sites : said (9 ∷ []) ≡ codes "refused 2\n"

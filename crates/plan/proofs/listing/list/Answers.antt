@@ -1,22 +1,13 @@
 -- The file is loaded on an empty planner, and solved with as many cells as are needed and a blank output. What is listed is what is to be said of that, with
 -- as many line ends.
-use Rattle.std.proofs.Common.{◌≡◌, List, ℕ, Result, Ok, Err, arith, refl, sym, subst, ◌∙◌}
-use Rattle.planner.specs.declared.Solution.{Solution}
-use Rattle.planner.specs.declared.Solution.TheVariants.{Found, NoRoute}
-use Rattle.query.specs.declared.refusal.Refusal.{Refusal}
+use Rattle.std.proofs.Common.{Err, arith, refl, sym, subst, ◌∙◌}
 use Rattle.planner.specs.Solve.{Solving, blank}
-use Rattle.planner.specs.Code.{state_of, of_solve}
+use Rattle.planner.specs.Code.{state_of}
 use Rattle.planner.proofs.Cells.{needed_enough, solve_enough}
 use Rattle.plan.specs.Lines.{lines, lines_solved}
-use Rattle.plan.specs.Text.{text_of, said_of, said}
+use Rattle.plan.specs.Text.{said}
 use Rattle.plan.proofs.LineEnds.{HasSteps, ends_text, solve_room, blank_room}
 use Rattle.plan.proofs.listing.list.Goals as goal
-
--- The text of an answer is what is to be said of it.
-says : (answer : Result Solution Refusal) (output : List ℕ) → text_of answer output ≡ said_of (of_solve answer) output
-says (Ok (Found c l t)) output = refl
-says (Ok (NoRoute t)) output = refl
-says (Err r) output = refl
 
 pub returns-in-Ok : goal.returns-in-Ok
 unfolding lines lines_solved said
@@ -25,7 +16,7 @@ returns-in-Ok c =
     let solved = c.solve-answer.ensures.solved ∙ solve_enough _ blank (state_of p) (needed_enough p _ (omega arith)) in
     let room = subst (λ (x : Solving). HasSteps x.output) (sym solved) (solve_room _ blank _ blank_room) in
     record {
-      says = says c.solve-answer.result c.solve-answer.new.output ∙ rw (← c.empty.ensures, ← c.load-loaded.ensures, c.in-Ok.is, ← solved) refl;
+      says = rw (← c.empty.ensures, ← c.load-loaded.ensures, c.in-Ok.is, ← solved) refl;
       counts = ends_text c.solve-answer.result c.solve-answer.new.output room ∙ rw (← c.empty.ensures, ← c.load-loaded.ensures, c.in-Ok.is, ← solved) refl;
     }
 
@@ -33,6 +24,6 @@ pub returns-in-Err : goal.returns-in-Err
 unfolding lines said
 returns-in-Err c =
     record {
-      says = rw (← c.empty.ensures, ← c.load-loaded.ensures, c.in-Err.is) (says (Err c.in-Err.refusal) blank);
+      says = rw (← c.empty.ensures, ← c.load-loaded.ensures, c.in-Err.is) refl;
       counts = rw (← c.empty.ensures, ← c.load-loaded.ensures, c.in-Err.is) (ends_text (Err c.in-Err.refusal) blank blank_room);
     }
